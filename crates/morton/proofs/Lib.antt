@@ -1,0 +1,10 @@
+pub mod Levels
+pub mod Dilated
+pub mod Fields
+pub mod Vertices
+pub mod Refusals
+pub mod Sides
+pub mod Rounding
+pub mod Sizes
+pub mod Distance
+pub mod Trace
