@@ -1,0 +1,2 @@
+-- Laws that the proofs of `mittenhelm` share.
+pub mod Handing

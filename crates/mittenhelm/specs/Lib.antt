@@ -1,0 +1,2 @@
+-- What the contracts of `mittenhelm` cite.
+pub mod Boundary

@@ -1,0 +1,72 @@
+/* Mittenhelm's boundary for hosts: numbers and pointers to numbers only.
+ *
+ * Every function accepts every value of its parameters and returns. A pointer must point to a place that the caller owns
+ * and that no other parameter of the same call points to; nothing is kept after the call.
+ *
+ * A function that can refuse returns 0 where it accepts, and writes its result where the pointer says. Else it returns the
+ * refusal's number and writes nothing.
+ *
+ * A cell key of level L (0 to 21) is a number from 8^L up to 2 x 8^L - 1: a leading one, then bits of z, y and x in turn, the
+ * lowest being x. The cube goes from 0 to 1 on each axis.
+ */
+#ifndef MITTENHELM_H
+#define MITTENHELM_H
+
+#include <stdbool.h>
+#include <stdint.h>
+
+#ifdef __cplusplus
+extern "C" {
+#endif
+
+/* Why a call refused. */
+enum mittenhelm_refusal {
+    MITTENHELM_ACCEPTED = 0,
+    MITTENHELM_NOT_A_CELL = 1,    /* not a cell key */
+    MITTENHELM_ABOVE_SEVEN = 2,   /* child, corner or side above 7 */
+    MITTENHELM_WRONG_LEVEL = 3,   /* child of level 21; or the level given isn't the key's own */
+    MITTENHELM_NOT_A_VERTEX = 4   /* not an inner vertex at that level */
+};
+
+/* The level of any number: 0 for 0, else the largest L with 8^L at most the number. */
+uint32_t mittenhelm_level(uint64_t key);
+
+/* Whether the number is a cell key. */
+bool mittenhelm_is_cell(uint64_t key);
+
+/* The number divided by 8, rounded down, but at least 1. */
+uint64_t mittenhelm_parent(uint64_t key);
+
+/* The sum field by field: x modulo 2^22, y and z modulo 2^21. */
+uint64_t mittenhelm_add(uint64_t a, uint64_t b);
+
+/* The difference field by field: x modulo 2^22, y and z modulo 2^21. */
+uint64_t mittenhelm_sub(uint64_t a, uint64_t b);
+
+/* Child `which` (0 to 7) of a cell: 8 times the key, plus `which`. Refusals 1, 2, 3. */
+uint32_t mittenhelm_child(uint64_t key, uint32_t which, uint64_t *child);
+
+/* Half the side of a cell of level L: 1 / 2^(L+1), exactly. Refusal 1. */
+uint32_t mittenhelm_half_size(uint64_t key, float *half);
+
+/* The middle of a cell: (2c + 1) / 2^(L+1) on each axis with coordinate c, exactly. Refusal 1. */
+uint32_t mittenhelm_centre(uint64_t key, float *x, float *y, float *z);
+
+/* The vertex at a corner (bit 0 is x, bit 1 y, bit 2 z) of a cell whose level is given, or 0 where the corner lies on the
+ * cube's outside or the level is 21. Refusals 1, 2, 3. */
+uint32_t mittenhelm_vertex(uint64_t key, uint32_t level, uint32_t corner, uint64_t *vertex);
+
+/* Whether the number is an inner vertex at the level. */
+bool mittenhelm_is_inner(uint64_t vertex, uint32_t level);
+
+/* The cell key of the level on side `which` (0 to 7) of an inner vertex. Refusals 2, 4. */
+uint32_t mittenhelm_side(uint64_t vertex, uint32_t level, uint32_t which, uint64_t *cell);
+
+/* Whether a distance splits an asked cell of the level under a depth bound; of a level above 21, which no cell has: false. */
+bool mittenhelm_should_refine(uint32_t level, uint32_t bound, float distance);
+
+#ifdef __cplusplus
+}
+#endif
+
+#endif
