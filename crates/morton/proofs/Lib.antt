@@ -8,3 +8,6 @@ pub mod Rounding
 pub mod Sizes
 pub mod Distance
 pub mod Trace
+pub mod Cells
+pub mod One
+pub mod Examples

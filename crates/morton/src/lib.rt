@@ -251,7 +251,7 @@ fn coordinate(n: u64, level: u32) -> u32
     let b = (a | a >> 2 | a >> 4) & THREES;
     let c = (b | b >> 6 | b >> 12) & NINES;
     let all = c | c >> 18 | c >> 36;
-    (all & ((1 << level) - 1)) as u32
+    (all % 0x1_0000_0000) as u32 & ((1 << level) - 1)
 }
 
 fn half_size_at(level: u32) -> f32

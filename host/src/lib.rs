@@ -1,0 +1,148 @@
+//! Mittenhelm for Rust: safe functions over its C boundary, include/mittenhelm.h.
+//!
+//! The cube goes from 0 to 1 on each axis. A cell key of level L (0 to 21) is a number from 8^L up to 2 x 8^L - 1: a leading
+//! one, then bits of z, y and x in turn, the lowest being x.
+
+use std::error::Error;
+use std::fmt;
+
+/// The functions as C declares them: they take every value, and a refusal, returned as its number, leaves every out parameter
+/// as it was. A `&mut` is all that a pointer has to be there, so each call below is sound.
+pub mod raw {
+    // A `bool` of C is taken as a byte, so that no value of it could be undefined behaviour here.
+    extern "C" {
+        pub fn mittenhelm_level(key: u64) -> u32;
+        pub fn mittenhelm_is_cell(key: u64) -> u8;
+        pub fn mittenhelm_parent(key: u64) -> u64;
+        pub fn mittenhelm_add(a: u64, b: u64) -> u64;
+        pub fn mittenhelm_sub(a: u64, b: u64) -> u64;
+        pub fn mittenhelm_child(key: u64, which: u32, child: &mut u64) -> u32;
+        pub fn mittenhelm_half_size(key: u64, half_size: &mut f32) -> u32;
+        pub fn mittenhelm_centre(key: u64, x: &mut f32, y: &mut f32, z: &mut f32) -> u32;
+        pub fn mittenhelm_vertex(key: u64, level: u32, corner: u32, vertex: &mut u64) -> u32;
+        pub fn mittenhelm_is_inner(vertex: u64, level: u32) -> u8;
+        pub fn mittenhelm_side(vertex: u64, level: u32, which: u32, cell: &mut u64) -> u32;
+        pub fn mittenhelm_should_refine(level: u32, bound: u32, distance: f32) -> u8;
+    }
+}
+
+/// Why a call refused.
+#[derive(Clone, Copy, Debug, PartialEq, Eq, Hash)]
+pub struct Refusal {
+    number: u32,
+}
+
+impl Refusal {
+    pub fn number(self) -> u32 {
+        self.number
+    }
+
+    pub fn reason(self) -> &'static str {
+        match self.number {
+            1 => "not a cell key",
+            2 => "child, corner or side above 7",
+            3 => "child of level 21, or the level given isn't the key's own",
+            4 => "not an inner vertex at that level",
+            _ => "a number that this wrapper doesn't know",
+        }
+    }
+}
+
+impl fmt::Display for Refusal {
+    fn fmt(&self, f: &mut fmt::Formatter<'_>) -> fmt::Result {
+        write!(f, "refused {}: {}", self.number, self.reason())
+    }
+}
+
+impl Error for Refusal {}
+
+/// The result of a call, unless the number that it returned is a refusal.
+fn accepted<T>(number: u32, result: T) -> Result<T, Refusal> {
+    match number {
+        0 => Ok(result),
+        number => Err(Refusal { number }),
+    }
+}
+
+/// The level of any number: 0 for 0, else the largest L with 8^L at most the number.
+pub fn level(key: u64) -> u32 {
+    unsafe { raw::mittenhelm_level(key) }
+}
+
+/// Whether the number is a cell key.
+pub fn is_cell(key: u64) -> bool {
+    unsafe { raw::mittenhelm_is_cell(key) != 0 }
+}
+
+/// The number divided by 8, rounded down, but at least 1.
+pub fn parent(key: u64) -> u64 {
+    unsafe { raw::mittenhelm_parent(key) }
+}
+
+/// The sum field by field: x modulo 2^22, y and z modulo 2^21.
+pub fn add(a: u64, b: u64) -> u64 {
+    unsafe { raw::mittenhelm_add(a, b) }
+}
+
+/// The difference field by field: x modulo 2^22, y and z modulo 2^21.
+pub fn sub(a: u64, b: u64) -> u64 {
+    unsafe { raw::mittenhelm_sub(a, b) }
+}
+
+/// Child `which` (0 to 7) of a cell.
+pub fn child(key: u64, which: u32) -> Result<u64, Refusal> {
+    let mut child = 0;
+    let number = unsafe { raw::mittenhelm_child(key, which, &mut child) };
+    accepted(number, child)
+}
+
+/// Half the side of a cell.
+pub fn half_size(key: u64) -> Result<f32, Refusal> {
+    let mut half_size = 0.0;
+    let number = unsafe { raw::mittenhelm_half_size(key, &mut half_size) };
+    accepted(number, half_size)
+}
+
+/// The middle of a cell: x, y and z.
+pub fn centre(key: u64) -> Result<[f32; 3], Refusal> {
+    let [mut x, mut y, mut z] = [0.0; 3];
+    let number = unsafe { raw::mittenhelm_centre(key, &mut x, &mut y, &mut z) };
+    accepted(number, [x, y, z])
+}
+
+/// The vertex at a corner (bit 0 is x, bit 1 y, bit 2 z) of a cell whose level is given, or 0 where there is none: the corner
+/// lies on the cube's outside, or the level is 21.
+pub fn vertex(key: u64, level: u32, corner: u32) -> Result<u64, Refusal> {
+    let mut vertex = 0;
+    let number = unsafe { raw::mittenhelm_vertex(key, level, corner, &mut vertex) };
+    accepted(number, vertex)
+}
+
+/// Whether the number is an inner vertex at the level.
+pub fn is_inner(vertex: u64, level: u32) -> bool {
+    unsafe { raw::mittenhelm_is_inner(vertex, level) != 0 }
+}
+
+/// The cell key of the level on side `which` (0 to 7) of an inner vertex.
+pub fn side(vertex: u64, level: u32, which: u32) -> Result<u64, Refusal> {
+    let mut cell = 0;
+    let number = unsafe { raw::mittenhelm_side(vertex, level, which, &mut cell) };
+    accepted(number, cell)
+}
+
+/// Whether a distance splits an asked cell of the level under a depth bound.
+pub fn should_refine(level: u32, bound: u32, distance: f32) -> bool {
+    unsafe { raw::mittenhelm_should_refine(level, bound, distance) != 0 }
+}
+
+#[cfg(test)]
+mod tests {
+    use super::*;
+
+    #[test]
+    fn a_refusal_tells_its_number_and_reason() {
+        let told = |number| Refusal { number }.to_string();
+        assert_eq!(told(1), "refused 1: not a cell key");
+        assert_eq!(told(99), "refused 99: a number that this wrapper doesn't know");
+    }
+}

@@ -1,0 +1,47 @@
+/* Uses every function of the header once, in the language that C and C++ share. Exits 0 if each answers as document 01 says. */
+#include "mittenhelm.h"
+
+#include <math.h>
+#include <stdio.h>
+
+static int wrong = 0;
+
+static void expect(bool holds, const char *what)
+{
+    if (!holds) {
+        fprintf(stderr, "wrong: %s\n", what);
+        wrong = 1;
+    }
+}
+
+int main(void)
+{
+    const uint64_t middle = UINT64_C(0xf000000000000000);
+    uint64_t number = 5;
+    float h = 5, x = 5, y = 5, z = 5;
+
+    expect(mittenhelm_level(64) == 2, "level");
+    expect(mittenhelm_is_cell(15) && !mittenhelm_is_cell(16), "is_cell");
+    expect(mittenhelm_parent(16) == 2, "parent");
+    expect(mittenhelm_add(1, 7) == 14, "add");
+    expect(mittenhelm_sub(0, 1) == UINT64_C(0x9249249249249249), "sub");
+
+    expect(mittenhelm_child(16, 8, &number) == MITTENHELM_NOT_A_CELL && number == 5, "child of no cell");
+    expect(mittenhelm_child(8, 8, &number) == MITTENHELM_ABOVE_SEVEN && number == 5, "child 8");
+    expect(mittenhelm_child(UINT64_MAX, 7, &number) == MITTENHELM_WRONG_LEVEL && number == 5, "child of level 21");
+    expect(mittenhelm_child(9, 3, &number) == MITTENHELM_ACCEPTED && number == 75, "child");
+
+    expect(mittenhelm_half_size(9, &h) == MITTENHELM_ACCEPTED && h == 0.25f, "half_size");
+    expect(mittenhelm_centre(9, &x, &y, &z) == MITTENHELM_ACCEPTED, "centre");
+    expect(x == 0.75f && y == 0.25f && z == 0.25f, "centre's coordinates");
+
+    expect(mittenhelm_vertex(71, 2, 7, &number) == MITTENHELM_ACCEPTED && number == middle, "vertex");
+    expect(mittenhelm_vertex(8, 1, 0, &number) == MITTENHELM_ACCEPTED && number == 0, "no vertex");
+    expect(mittenhelm_is_inner(middle, 1) && !mittenhelm_is_inner(middle, 0), "is_inner");
+    expect(mittenhelm_side(middle, 1, 7, &number) == MITTENHELM_ACCEPTED && number == 8, "side");
+    expect(mittenhelm_side(8, 1, 7, &number) == MITTENHELM_NOT_A_VERTEX && number == 8, "side of no vertex");
+
+    expect(mittenhelm_should_refine(2, 3, 14529495.0f / 67108864.0f), "should_refine");
+    expect(!mittenhelm_should_refine(2, 3, NAN), "should_refine of NaN");
+    return wrong;
+}
