@@ -23,7 +23,7 @@ abbrev pub OnlyOne : {A : Type 0} → (A → Type 0) → Type 0
 OnlyOne {A} promise = (r s : A) → promise r → promise s → r ≡ s
 
 -- an answer that equals something
-equal : {A : Type 0} (x : A) → OnlyOne (λ (r : A). r ≡ x)
+pub equal : {A : Type 0} (x : A) → OnlyOne (λ (r : A). r ≡ x)
 equal x r s p q = p ∙ sym q
 
 same-key : (x : ℕ) → OnlyOne (λ (r : Key). r .code ≡ x)
