@@ -1,13 +1,13 @@
 -- Dilated numbers: every third bit of a word holds one number, and sums go through the bits between. Assumes nothing.
 use mathlib.Core.Path.{_≡_, refl, sym, ap, ap₂, _∙_, subst}
 use Prim.Native.Nat.{ℕ, zero, suc, _+_, _-_, _*_, _/_, _%_, _^_, _≤_, _<_}
-use native.Mathlib.Nat.{div-add-mod', mod-lt, mod-eq-of-lt, pow-suc, mul-comm, add-comm, add-zero, add-assoc, add-mul, div-lt-iff-lt-mul, mod-add-mod, add-mod-right, mul-one, zero-mul, mul-pos, zero-lt-suc, lt-irrefl}
+use native.Mathlib.Nat.{div-add-mod', mod-lt, mod-eq-of-lt, pow-suc, add-zero, add-assoc, add-mul, div-lt-iff-lt-mul, mod-add-mod, add-mod-right, mul-one, zero-mul, mul-pos, zero-lt-suc, lt-irrefl}
 use native.Mathlib.Omega.{arith}
 use native.Mathlib.Numerals.{add-one}
 use lib.Arith.{mod-mul}
-use lib.Pow.{pow-pos, mod-pow-add, high, low, split, ones-lt, shl-shr}
+use lib.Pow.{pow-pos, mod-pow-add, high, split, ones-lt, shl-shr}
 use lib.Dec.{lit<, lit≤}
-use lib.Bits.{bitAnd, bitOr, and-block, or-block, and-mask, and-high, or-add-and, or-zero-r, or-shifted-r, and-zero-r, or-lt}
+use lib.Bits.{bitAnd, bitOr, and-block, or-block, and-mask, and-high, or-add-and, or-shifted-r, and-zero-r, or-lt}
 use Rattle.morton.specs.Field.{third, width, field, weave, word, add, sub}
 
 -- k bits of a at every third place

@@ -1,12 +1,12 @@
 -- The float test `|d| <= x`, the absolute value taken by a sign test, says whether d is finite and |d| is at most x's fraction. Assumes nothing.
 use mathlib.Core.Path.{_≡_, refl, sym, ap, _∙_, subst}
 use mathlib.Core.Logic.{inl, inr}
-use mathlib.Core.Bool.{Bool, true, false, not, _&&_, _||_, cond, true≢false, false≢true}
+use mathlib.Core.Bool.{Bool, true, false, _&&_, _||_, cond, true≢false, false≢true}
 use Prim.Native.Nat.{ℕ, zero, suc, _+_, _*_, _^_, _≤_, _<_}
-use native.Mathlib.Nat.{le-of-eq, le-of-lt, eq-or-lt-of-le, zero-mul, mul-one, mul-pos, zero-lt-suc, lt-irrefl}
+use native.Mathlib.Nat.{le-of-eq, le-of-lt, eq-or-lt-of-le, zero-mul, mul-pos}
 use native.Mathlib.Omega.{arith}
-use lib.IntN.{ℤ, pos, negsuc}
-use lib.Dec.{T, leb, ltb, eqb, leb→le, le→leb, ltb→lt, lt→ltb, eqb→eq, eqb-refl, nltb→le}
+use lib.IntN.{pos}
+use lib.Dec.{T, leb, ltb, eqb, leb→le, le→leb, ltb→lt, lt→ltb, eqb→eq}
 use lib.Pow.{pow-pos}
 use lib.Ieee.{Float, nan, inf, fin, binary32, up, down, neg, mul, lt, le, ofBits}
 use lib.Ieee.Fits.{down-pos, eq→eqb}

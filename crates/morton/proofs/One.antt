@@ -1,16 +1,13 @@
 -- One answer only: of each public call, two answers that meet its promise are the same. Assumes nothing.
 use mathlib.Core.Path.{_≡_, sym, ap, _∙_}
-use mathlib.Core.Bool.{Bool, true, false, _&&_, true≢false, false≢true}
+use mathlib.Core.Bool.{Bool, true, false, _&&_, true≢false}
 use Prim.Native.Nat.{ℕ, _+_, _*_, _^_}
 use lib.Dec.{leb}
 use lib.Ieee.{Float}
 use lib.Pow.{pow-pos}
 use Rattle.morton.specs.declared.Key.{Key}
-use Rattle.morton.specs.declared.Vec3.{Vec3}
 use Rattle.morton.specs.declared.KeyAnswer.{KeyAnswer}
-use Rattle.morton.specs.declared.SizeAnswer.{SizeAnswer}
 use Rattle.morton.specs.declared.SizeAnswer.the-variants as size
-use Rattle.morton.specs.declared.CentreAnswer.{CentreAnswer}
 use Rattle.morton.specs.declared.CentreAnswer.the-variants as centre
 use Rattle.morton.specs.Answers.{childOf, vertexAnswer, sideAnswer, HalfSizeSays, OnAxis, CentreSays}
 use Rattle.morton.specs.Field.{coord, add, sub}

@@ -1,15 +1,15 @@
 -- The half size and the centre of a cell as floats. Assumes nothing.
 use mathlib.Core.Path.{_≡_, refl, sym, ap, _∙_, subst}
-use mathlib.Core.Bool.{Bool, true, false}
-use Prim.Native.Nat.{ℕ, zero, suc, _+_, _*_, _%_, _^_, _≤_, _<_}
-use native.Mathlib.Nat.{le-trans, lt-of-lt-of-le, add-zero, zero-add, mul-one, mul-comm, pow-succ'}
+use mathlib.Core.Bool.{false}
+use Prim.Native.Nat.{ℕ, _+_, _*_, _%_, _^_, _≤_, _<_}
+use native.Mathlib.Nat.{lt-of-lt-of-le, add-zero, zero-add, mul-comm, pow-succ'}
 use native.Mathlib.Numerals.{add-one}
 use native.Mathlib.Omega.{arith}
 use lib.IntN.{pos, negsuc}
 use lib.Dec.{T, lit<}
-use lib.Pow.{pow-pos, pow-mono, pow-add, shl-exact}
+use lib.Pow.{pow-mono, pow-add, shl-exact}
 use lib.Ieee.{Float, fin, binary32, add, mul, div, ofInt, ofBits, inFloat, fits}
-use Rattle.morton.specs.Exact.{Equals, Exactly}
+use Rattle.morton.specs.Exact.{Exactly}
 use Rattle.morton.proofs.Rounding.{mul-exactly, add-exactly, div-exactly, whole-exactly, whole-in, exactly-over}
 
 -- ---- the literals, by their bit patterns

@@ -1,6 +1,5 @@
 -- `show` is safe and ends. The measure is the number of calls that are left. Assumes nothing.
 use Prim.Native.Nat.{_-_, _≤_}
-use native.Mathlib.Omega.{arith}
 use borrow.Author.Needs.{needs}
 use Rattle.replay.proofs.show.Statement.{statement}
 use Rattle.replay.proofs.show.Tie as tie

@@ -1,6 +1,5 @@
 -- `word` is safe and ends. The measure is the number of digits that are left. Assumes nothing.
 use Prim.Native.Nat.{_-_, _≤_}
-use native.Mathlib.Omega.{arith}
 use borrow.Author.Needs.{needs}
 use Rattle.replay.proofs.word.Statement.{statement}
 use Rattle.replay.proofs.word.Tie as tie

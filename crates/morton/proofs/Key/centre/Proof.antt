@@ -1,5 +1,5 @@
 -- `Key::centre` meets its contract: one call for each axis. Assumes nothing.
-use mathlib.Core.Path.{_≡_, refl, sym, ap, _∙_, subst}
+use mathlib.Core.Path.{_≡_, refl, sym, _∙_, subst}
 use Prim.Native.Nat.{ℕ, _+_, _*_, _/_, _^_, _≤_}
 use native.Mathlib.Nat.{div-one}
 use lib.Ieee.{Float}
