@@ -3,6 +3,7 @@ use Prim.Native.Nat.{ℕ, zero, suc, _*_, _/_, _^_, _≤_, _<_, max}
 use mathlib.Core.Bool.{Bool, true, false, _&&_}
 use lib.Dec.{leb, ltb}
 
+-- The first number if the test holds, else the second.
 abbrev pub if₀ : Bool → ℕ → ℕ → ℕ
 if₀ true a b = a
 if₀ false a b = b

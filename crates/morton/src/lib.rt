@@ -1,11 +1,11 @@
 // Octree cell keys, by value. From src/morton.rs of isosurface 0.0.4, and the split rule of its build_octree.
 ghost use mathlib.Core.Path.{_≡_};
 ghost use mathlib.Core.Bool.{_&&_};
-ghost use Prim.Native.Nat.{_+_, _-_, _*_, _/_, _%_, _^_, _≤_, _<_, max};
+ghost use Prim.Native.Nat.{_+_, _*_, _^_, _≤_};
 ghost use lib.Dec.{leb};
 ghost use Rattle.morton.specs.Answers.{childOf, vertexAnswer, sideAnswer, HalfSizeSays, CentreSays};
 ghost use Rattle.morton.specs.Exact.{Exactly};
-ghost use Rattle.morton.specs.Field.{coord, add, sub, third};
+ghost use Rattle.morton.specs.Field.{third, add, sub};
 ghost use Rattle.morton.specs.Level.{deepest, level, isCell, parentOf};
 ghost use Rattle.morton.specs.Split.{near, splits};
 ghost use Rattle.morton.specs.Vertex.{isInner, isInside};
@@ -17,7 +17,7 @@ const Y: u64 = 0x2492_4924_9249_2492;
 
 const Z: u64 = 0x4924_9249_2492_4924;
 
-// The bits of one coordinate after the first and the second step of closing up.
+// Where the bits of one field lie once they are closed up to threes, and to nines.
 const THREES: u64 = 0x01C0_E070_381C_0E07;
 
 const NINES: u64 = 0x7FC0_000F_F800_01FF;
@@ -154,7 +154,8 @@ impl Key {
         CentreAnswer::Is(Vec3 { x, y, z })
     }
 
-    // The key of this level has no coordinate 0. The leading one is taken off first, so that x is tested as y and z are.
+    // Whether the number is a cell key of this level that has no coordinate 0. The leading one is taken off first, so that x is tested as
+    // y and z are.
     fn is_inside(self, level: u32) -> bool
         requires { ⌜ level ≤ 20 ⌝ }
         ensures { λ r. ⌜ r ≡ isInside level (self .code) ⌝ }
@@ -177,7 +178,7 @@ impl Key {
         true
     }
 
-    // The vertex at a corner of a cell, or 0 where it lies on the cube's outside. `primal_vertex` in the Rust.
+    // The vertex at a corner of a cell, or 0 where it lies on the cube's outside, and at level 21. `primal_vertex` in the Rust.
     pub fn vertex(self, level: u32, corner: u32) -> KeyAnswer
         ensures { λ r. ⌜ r ≡ vertexAnswer (self .code) level corner ⌝ }
     {
@@ -242,7 +243,8 @@ impl Key {
     }
 }
 
-// The low bits of one field, closed up: three at a time, then nine, then all.
+// A coordinate of a cell of this level, from the key moved so that the axis begins at bit 0: the bits are closed up to threes, to nines
+// and to one run, of which the leading one and what lies above are cut off.
 fn coordinate(n: u64, level: u32) -> u32
     requires { ⌜ level ≤ deepest ⌝ }
     ensures { λ r. ⌜ r ≡ third level n ⌝ }
@@ -254,6 +256,7 @@ fn coordinate(n: u64, level: u32) -> u32
     (all % 0x1_0000_0000) as u32 & ((1 << level) - 1)
 }
 
+// A power of two, so nothing is rounded.
 fn half_size_at(level: u32) -> f32
     requires { ⌜ level ≤ deepest ⌝ }
     ensures { λ r. ⌜ Exactly r 1 (2 ^ (level + 1)) ⌝ }
@@ -261,6 +264,7 @@ fn half_size_at(level: u32) -> f32
     1.0 / ((2u32 << level) as f32)
 }
 
+// The centre on one axis, from the key moved so that the axis begins at bit 0. Every step is exact, since it needs no more than 22 bits.
 fn centre_on(n: u64, level: u32) -> f32
     requires { ⌜ level ≤ deepest ⌝ }
     ensures { λ r. ⌜ Exactly r (2 * third level n + 1) (2 ^ (level + 1)) ⌝ }
