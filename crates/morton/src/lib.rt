@@ -25,6 +25,9 @@ const NINES: u64 = 0x7FC0_000F_F800_01FF;
 // No cell key has a greater level.
 const DEEPEST: u32 = 21;
 
+// The greatest bound of a build, and the greatest level of a tree.
+pub const LIMIT: u32 = 15;
+
 // The root of three as an f32: 14529495 / 2^23.
 const SQRT_OF_3: f32 = 14529495.0 / 8388608.0;
 
