@@ -190,9 +190,17 @@ ready-whole s split t r h = ((r .small, omega (arith, r .few)), rw h at (r .next
 
 -- ---- the whole call
 
+and-false : (a : Bool) → (a && false) ≡ false
+and-false true = refl
+and-false false = refl
+
 pub refused : (s : State) (split : Bool) (d : Float) (t : Tables) (k : ℕ) → k ≡ refusalOf s split t → (k ≡ 0 → ⊥) → outcome (Refused k) t ≡ decideOf s split d t
 unfolding decideOf
 refused s split d t k e n = rw (← e, ne-eqb _ _ n)
+
+pub deep-refused : (s : State) (split : Bool) (d : Float) (t : Tables) → limit < s .bound → outcome (Refused 10) t ≡ decideOf s split d t
+unfolding refusalOf refusalAt fitsAt countsFit
+deep-refused s split d t h = refused s split d t 10 (rw (lt-leb (s .bound) limit h, and-false) refl) (λ e. omega arith)
 
 pub accepted : (s : State) (split : Bool) (d : Float) (t : Tables) → refusalOf s split t ≡ 0 → acceptOf s split d t ≡ decideOf s split d t
 unfolding decideOf

@@ -3,3 +3,4 @@ pub mod Walk
 pub mod Ring
 pub mod Laws
 pub mod Asking
+pub mod One

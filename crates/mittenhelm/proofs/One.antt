@@ -1,6 +1,7 @@
 -- One answer only: of each exported call, what is returned and every out parameter are settled by its promise. Assumes nothing.
 use mathlib.Core.Path.{_≡_, sym, _∙_, subst}
 use mathlib.Core.Bool.{Bool, _&&_}
+use mathlib.Core.List.{List}
 use Prim.Native.Nat.{ℕ}
 use lib.Dec.{leb}
 use lib.Ieee.{Float}
@@ -16,6 +17,9 @@ use Rattle.morton.specs.Level.{deepest, level, isCell, parentOf}
 use Rattle.morton.specs.Split.{splits}
 use Rattle.morton.specs.Vertex.{isInner}
 use Rattle.morton.proofs.One.{OnlyOne, equal, half-size-one as size-answer-one, centre-one as centre-answer-one}
+use Rattle.build.specs.declared.Request.{Request}
+use Rattle.build.specs.Build.{Tables}
+use Rattle.mittenhelm.specs.Words.{Reply, startReplies, Left, distanceLeaves}
 use Rattle.mittenhelm.specs.Boundary.{HandsKey, HandsFloat, HandsSize, Three, HandsThree, HandsCentre}
 
 -- what is returned, with what the out parameter then is
@@ -78,3 +82,9 @@ side-one v L w was = key-one (sideAnswer v L w) was
 
 pub should-refine-one : (L bound : ℕ) (d : Float) → OnlyOne (λ (r : Bool). r ≡ (leb L deepest && splits L bound d))
 should-refine-one L bound d = equal (leb L deepest && splits L bound d)
+
+pub start-one : (bound : ℕ) (t : Tables) (words : List ℕ) (q : Request) → OnlyOne (λ (r : Reply). r ≡ startReplies bound t words q)
+start-one bound t words q = equal (startReplies bound t words q)
+
+pub distance-one : (words : List ℕ) (d : Float) (t : Tables) (q : Request) → OnlyOne (λ (r : Left). r ≡ distanceLeaves words d t q)
+distance-one words d t q = equal (distanceLeaves words d t q)

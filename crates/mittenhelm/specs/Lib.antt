@@ -1,2 +1,3 @@
 -- What the contracts of `mittenhelm` cite.
 pub mod Boundary
+pub mod Words

@@ -1,96 +1,72 @@
+-- `accept` meets its contract: it stores the node, then the leaf or the children, and advances. Assumes nothing.
 use Rattle.build.specs.Build.{acceptOf, storedOf, leavesOf, queueOf}
 use Rattle.build.proofs.Laws.{ready-split, ready-whole}
 use native.Mathlib.Omega.{arith}
 use borrow.Author.Needs.{needs}
 use Rattle.build.proofs.accept.Statement.{statement}
 use Rattle.build.proofs.accept.Tie as tie
-use Rattle.build.proofs.accept.Reads as reads
-use Rattle.build.proofs.accept.Lts as lts
-use Rattle.build.proofs.advance.Reads as advance-reads
-use Rattle.build.proofs.put_children.Reads as put-children-reads
 
--- src/lib.rt:359:5
 mul-keys : tie.Need-mul-keys
 mul-keys c = search needs
 
--- src/lib.rt:359:5
 slice-write-keys : tie.Need-slice-write-keys
 slice-write-keys c = search needs
 
--- src/lib.rt:360:5
 mul-distances : tie.Need-mul-distances
 mul-distances c = search needs
 
--- src/lib.rt:360:5
 slice-write-distances : tie.Need-slice-write-distances
 slice-write-distances c = search needs
 
--- src/lib.rt:362:39
 sub-put-children : tie.Need-sub-put-children
 sub-put-children c = search needs
 
--- src/lib.rt:362:34
 mul-put-children : tie.Need-mul-put-children
 mul-put-children c = search needs
 
--- src/lib.rt:362:9
 put-children-requires : tie.Need-put-children-requires
 put-children-requires c κs = let r = c .before .before .before .before .before .before .pre .ring-room (c .before .if1 .taken) in omega arith
 
--- src/lib.rt:363:9
 advance-requires : tie.Need-advance-requires
 advance-requires c κs = ready-split _ _ _ _ (c .before .before .before .before .before .before .before .before .before .before .pre) (c .before .before .before .before .before .if1 .taken) (c .before .before .before .put-children .ensures)
 
--- src/lib.rt:363:9
 same-length : tie.Need-same-length
 same-length c = search needs
 
--- src/lib.rt:363:9
 same-length-2 : tie.Need-same-length-2
 same-length-2 c = search needs
 
--- src/lib.rt:363:9
 same-length-3 : tie.Need-same-length-3
 same-length-3 c = search needs
 
--- src/lib.rt:363:9
 returns : tie.Need-returns
 unfolding acceptOf storedOf leavesOf queueOf
 returns c = rw (c .before .before .before .before .before .before .if1 .taken, c .advance .ensures, c .before .before .before .before .put-children .ensures)
 
--- src/lib.rt:365:5
 mul-leaves : tie.Need-mul-leaves
 mul-leaves c = search needs
 
--- src/lib.rt:365:5
 slice-write-leaves : tie.Need-slice-write-leaves
 slice-write-leaves c = c .before .before .before .before .before .pre .leaf-room (c .if1 .left)
 
--- src/lib.rt:366:16
 add-advance : tie.Need-add-advance
 add-advance c = search needs
 
--- src/lib.rt:366:5
 advance-requires-2 : tie.Need-advance-requires-2
 advance-requires-2 c κs = ready-whole _ _ _ (c .before .before .before .before .before .before .pre) (c .before .if1 .left)
 
--- src/lib.rt:342:1
 same-length-4 : tie.Need-same-length-4
 same-length-4 c = search needs
 
--- src/lib.rt:342:1
 same-length-5 : tie.Need-same-length-5
 same-length-5 c = search needs
 
--- src/lib.rt:342:1
 same-length-6 : tie.Need-same-length-6
 same-length-6 c = search needs
 
--- src/lib.rt:342:1
 same-length-7 : tie.Need-same-length-7
 same-length-7 c = search needs
 
--- src/lib.rt:342:1
 returns-2 : tie.Need-returns-2
 unfolding acceptOf storedOf leavesOf queueOf
 returns-2 c = rw (c .before .before .if1 .left, c .advance2 .ensures)

@@ -1,23 +1,18 @@
+-- `after` meets its contract: only the last place is followed by 0. Assumes nothing.
 use Rattle.build.proofs.Ring.{after-last, after-other}
 use borrow.Author.Needs.{needs}
 use Rattle.build.proofs.after.Statement.{statement}
 use Rattle.build.proofs.after.Tie as tie
-use Rattle.build.proofs.after.Reads as reads
-use Rattle.build.proofs.after.Lts as lts
 
--- src/lib.rt:102:8
 add-if1 : tie.Need-add-if1
 add-if1 c = search needs
 
--- src/lib.rt:103:9
 returns : tie.Need-returns
 returns c = after-last _ _ (c .if1 .taken)
 
--- src/lib.rt:105:5
 add-result : tie.Need-add-result
 add-result c = search needs
 
--- src/lib.rt:98:1
 returns-2 : tie.Need-returns-2
 returns-2 c = after-other _ _ (c .before .pre) (c .if1 .left)
 

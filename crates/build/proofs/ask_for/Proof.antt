@@ -1,54 +1,39 @@
+-- `ask_for` meets its contract: centre and half size of a cell, as data. Assumes nothing.
 use Rattle.build.proofs.Asking.{request-is, centre-there, size-there}
 use borrow.Author.Needs.{needs}
 use Rattle.build.proofs.ask_for.Statement.{statement}
 use Rattle.build.proofs.ask_for.Tie as tie
-use Rattle.build.proofs.ask_for.Reads as reads
-use Rattle.build.proofs.ask_for.Lts as lts
-use Rattle.build.proofs.nothing.Reads as nothing-reads
-use Rattle.morton.proofs.Key.centre.Reads as centre-reads
-use Rattle.morton.proofs.Key.half_size.Reads as half-size-reads
 
--- src/lib.rt:67:9
 centre-requires : tie.Need-centre-requires
 centre-requires c κs = search needs
 
--- src/lib.rt:68:9
 half-size-requires : tie.Need-half-size-requires
 half-size-requires c κs = search needs
 
--- src/lib.rt:70:26
 enum-known-centre : tie.Need-enum-known-centre
 enum-known-centre c = search needs
 
--- src/lib.rt:72:32
 enum-known-size : tie.Need-enum-known-size
 enum-known-size c = search needs
 
--- src/lib.rt:79:43
 enum-told : tie.Need-enum-told
 enum-told c = search needs
 
--- src/lib.rt:79:43
 nothing-requires : tie.Need-nothing-requires
 nothing-requires c κs = search needs
 
--- src/lib.rt:82:37
 enum-told-2 : tie.Need-enum-told-2
 enum-told-2 c = search needs
 
--- src/lib.rt:82:37
 nothing-requires-2 : tie.Need-nothing-requires-2
 nothing-requires-2 c κs = search needs
 
--- src/lib.rt:62:1
 returns : tie.Need-returns
 returns c = request-is _ _ _ _ _ (c .before .before .before .before .before .before .before .centre .ensures) (c .before .before .before .before .centre2 .given .1) (c .before .before .before .before .before .before .half-size .ensures) (c .before .size .given .1)
 
--- src/lib.rt:62:1
 returns-2 : tie.Need-returns-2
 returns-2 c = absurd (size-there _ _ _ (c .before .before .before .before .before .before .before .before .pre) (c .before .before .before .before .before .before .half-size .ensures) (c .before .enum-told .given .1))
 
--- src/lib.rt:62:1
 returns-3 : tie.Need-returns-3
 returns-3 c = absurd (centre-there _ _ _ (c .before .before .before .before .before .pre) (c .before .before .before .before .centre .ensures) (c .before .enum-told2 .given .1))
 

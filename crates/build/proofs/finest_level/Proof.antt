@@ -1,16 +1,13 @@
+-- `finest_level` meets its contract. Assumes nothing.
 use Rattle.build.specs.Build.{finest}
 use native.Mathlib.Omega.{arith}
 use Rattle.build.proofs.finest_level.Statement.{statement}
 use Rattle.build.proofs.finest_level.Tie as tie
-use Rattle.build.proofs.finest_level.Reads as reads
-use Rattle.build.proofs.finest_level.Lts as lts
 
--- src/lib.rt:120:1
 returns : tie.Need-returns
 unfolding finest
 returns c = omega arith
 
--- src/lib.rt:120:1
 returns-2 : tie.Need-returns-2
 unfolding finest
 returns-2 c = omega arith

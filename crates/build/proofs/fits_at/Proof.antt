@@ -1,50 +1,36 @@
-use Rattle.build.proofs.Walk.{via-not-false}
+-- `fits_at` meets its contract, test by test. Assumes nothing.
+use Rattle.build.proofs.Walk.{via-not-false, called}
 use Rattle.build.proofs.Laws.{counts}
 use native.Mathlib.Omega.{arith}
 use Rattle.build.specs.Build.{fitsAt}
-use Rattle.build.proofs.Walk.{called}
 use borrow.Author.Needs.{needs}
 use Rattle.build.proofs.fits_at.Statement.{statement}
 use Rattle.build.proofs.fits_at.Tie as tie
-use Rattle.build.proofs.fits_at.Reads as reads
-use Rattle.build.proofs.fits_at.Lts as lts
-use Rattle.build.proofs.busy_fits.Reads as busy-fits-reads
-use Rattle.build.proofs.counts_fit.Reads as counts-fit-reads
-use Rattle.build.proofs.idle_fits.Reads as idle-fits-reads
-use Rattle.build.proofs.same_lengths.Reads as same-lengths-reads
 
--- src/lib.rt:211:9
 same-lengths-requires : tie.Need-same-lengths-requires
 same-lengths-requires c κs = search needs
 
--- src/lib.rt:212:9
 returns : tie.Need-returns
 unfolding fitsAt
 returns c = search called
 
--- src/lib.rt:214:9
 counts-fit-requires : tie.Need-counts-fit-requires
 counts-fit-requires c κs = search needs
 
--- src/lib.rt:215:9
 returns-2 : tie.Need-returns-2
 unfolding fitsAt
 returns-2 c = search called
 
--- src/lib.rt:217:8
 idle-fits-requires : tie.Need-idle-fits-requires
 idle-fits-requires c κs = let k = counts _ _ _ (via-not-false _ _ (c .before .counts-fit .ensures) (c .if2 .left)) in omega (arith, k .few, k .room)
 
--- src/lib.rt:218:9
 returns-3 : tie.Need-returns-3
 unfolding fitsAt
 returns-3 c = search called
 
--- src/lib.rt:220:5
 busy-fits-requires : tie.Need-busy-fits-requires
 busy-fits-requires c κs = let k = counts _ _ _ (via-not-false _ _ (c .before .before .before .counts-fit .ensures) (c .before .before .if2 .left)) in omega (arith, k .few, k .room)
 
--- src/lib.rt:207:1
 returns-4 : tie.Need-returns-4
 unfolding fitsAt
 returns-4 c = search called

@@ -1,43 +1,34 @@
+-- `full` meets its contract, test by test. Assumes nothing.
 use Rattle.build.specs.Build.{fullOf}
 use Rattle.build.proofs.Walk.{called}
 use borrow.Author.Needs.{needs}
 use Rattle.build.proofs.full.Statement.{statement}
 use Rattle.build.proofs.full.Tie as tie
-use Rattle.build.proofs.full.Reads as reads
-use Rattle.build.proofs.full.Lts as lts
 
--- src/lib.rt:237:30
 mul-if2 : tie.Need-mul-if2
 mul-if2 c = search needs
 
--- src/lib.rt:237:44
 mul-if2-2 : tie.Need-mul-if2-2
 mul-if2-2 c = search needs
 
--- src/lib.rt:237:30
 sub-if2 : tie.Need-sub-if2
 sub-if2 c = search needs
 
--- src/lib.rt:237:30
 add-if2 : tie.Need-add-if2
 add-if2 c = search needs
 
--- src/lib.rt:238:13
 returns : tie.Need-returns
 unfolding fullOf
 returns c = search called
 
--- src/lib.rt:240:9
 returns-2 : tie.Need-returns-2
 unfolding fullOf
 returns-2 c = search called
 
--- src/lib.rt:243:9
 returns-3 : tie.Need-returns-3
 unfolding fullOf
 returns-3 c = search called
 
--- src/lib.rt:232:1
 returns-4 : tie.Need-returns-4
 unfolding fullOf
 returns-4 c = search called

@@ -1,40 +1,28 @@
-use mathlib.Core.Path.{ap}
-use Prim.Native.Nat.{ℕ}
-use lib.ListN.{getD}
+-- `item_at` meets its contract: the place is inside the queue, if that has any. Assumes nothing.
+use mathlib.Core.Path.{ap, sym}
+use Prim.Native.Nat.{ℕ, _%_}
+use lib.ListN.{getD, length, List·getD-eq-default}
 use Rattle.build.proofs.Ring.{place-inside}
-use borrow.Author.Needs.{scaled-fits}
-use native.Mathlib.Nat.{mod-lt}
-use Prim.Native.Nat.{_%_}
-use mathlib.Core.Path.{sym}
+use borrow.Author.Needs.{scaled-fits, needs}
 use denote.Ref.{now}
-use lib.ListN.{length, List·getD-eq-default}
 use Rattle.build.specs.Build.{itemAt}
 use native.Mathlib.Omega.{arith}
-use borrow.Author.Needs.{needs}
 use Rattle.build.proofs.item_at.Statement.{statement}
 use Rattle.build.proofs.item_at.Tie as tie
-use Rattle.build.proofs.item_at.Reads as reads
-use Rattle.build.proofs.item_at.Lts as lts
-use Rattle.build.proofs.place.Reads as place-reads
 
--- src/lib.rt:113:13
 place-requires : tie.Need-place-requires
 place-requires c κs = search needs
 
--- src/lib.rt:114:9
 mul-result : tie.Need-mul-result
 mul-result c = scaled-fits _ _ 8 (place-inside _ _ _ (c .before .if1 .taken) (c .place .ensures)) (omega arith)
 
--- src/lib.rt:114:9
 shared-slice-read-result : tie.Need-shared-slice-read-result
 shared-slice-read-result c = place-inside _ _ _ (c .before .before .if1 .taken) (c .before .place .ensures)
 
--- src/lib.rt:109:1
 returns : tie.Need-returns
 unfolding itemAt
 returns c = ap (λ (x : ℕ). getD (now (c .before .before .before .before .args .queue)) x 0) (c .before .place .ensures)
 
--- src/lib.rt:109:1
 returns-2 : tie.Need-returns-2
 unfolding itemAt
 returns-2 c = let a = c .before .before .args in sym (List·getD-eq-default (now (a .queue)) 0 {n = a .item % length (now (a .queue))} (omega arith))

@@ -1,20 +1,15 @@
+-- `node_room` meets its contract. Assumes nothing.
 use Rattle.build.specs.Build.{nodeRoom}
 use borrow.Author.Needs.{needs}
 use Rattle.build.proofs.node_room.Statement.{statement}
 use Rattle.build.proofs.node_room.Tie as tie
-use Rattle.build.proofs.node_room.Reads as reads
-use Rattle.build.proofs.node_room.Lts as lts
-use Rattle.build.proofs.shorter.Reads as shorter-reads
 
--- src/lib.rt:135:13
 shorter-requires : tie.Need-shorter-requires
 shorter-requires c κs = search needs
 
--- src/lib.rt:135:5
 shorter-requires-2 : tie.Need-shorter-requires-2
 shorter-requires-2 c κs = search needs
 
--- src/lib.rt:132:1
 returns : tie.Need-returns
 unfolding nodeRoom
 returns c = search needs

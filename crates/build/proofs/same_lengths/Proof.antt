@@ -1,26 +1,21 @@
+-- `same_lengths` meets its contract, test by test. Assumes nothing.
 use Rattle.build.specs.Build.{sameLengths}
 use Rattle.build.proofs.Walk.{called}
 use Rattle.build.proofs.same_lengths.Statement.{statement}
 use Rattle.build.proofs.same_lengths.Tie as tie
-use Rattle.build.proofs.same_lengths.Reads as reads
-use Rattle.build.proofs.same_lengths.Lts as lts
 
--- src/lib.rt:148:9
 returns : tie.Need-returns
 unfolding sameLengths
 returns c = search called
 
--- src/lib.rt:151:9
 returns-2 : tie.Need-returns-2
 unfolding sameLengths
 returns-2 c = search called
 
--- src/lib.rt:154:9
 returns-3 : tie.Need-returns-3
 unfolding sameLengths
 returns-3 c = search called
 
--- src/lib.rt:144:1
 returns-4 : tie.Need-returns-4
 unfolding sameLengths
 returns-4 c = search called
