@@ -1,6 +1,6 @@
 -- What a state that fits knows, and what an accepted call stands on. Assumes nothing.
 use Prim.Native.Nat.{ℕ, _+_, _-_, _*_, _%_, _^_, _≤_, _<_}
-use mathlib.Core.Path.{_≡_, refl, sym, _∙_, ap, subst}
+use mathlib.Core.Path.{_≡_, refl, _∙_, ap, subst}
 use mathlib.Core.Bool.{Bool, true, false, cond, _||_, _&&_, not}
 use mathlib.Core.List.{List}
 use native.Mathlib.Omega.{arith}
@@ -16,7 +16,7 @@ use Rattle.morton.proofs.Cells.{child-cell}
 use Rattle.build.specs.declared.Answer.the-variants.{Refused}
 use Rattle.build.specs.declared.Lengths.{Lengths}
 use Rattle.build.specs.declared.State.{State}
-use Rattle.build.specs.Build.{Tables, Outcome, Ready, NextCell, outcome, lengthsOf, nodeRoom, finest, itemAt, items, cellTo, childrenTo, queueOf, leavesOf}
+use Rattle.build.specs.Build.{Tables, Ready, NextCell, outcome, lengthsOf, nodeRoom, finest, itemAt, items, cellTo, childrenTo, queueOf, leavesOf}
 use Rattle.build.specs.Build.{sameLengths, countsFit, idleFits, busyFits, fitsAt, fullOf, refusalAt, refusalOf, decideOf, acceptOf}
 use Rattle.build.proofs.Ring.{apart, length-children, children-other, children-at}
 

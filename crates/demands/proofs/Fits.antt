@@ -1,0 +1,141 @@
+-- The counts and the cells of a run's states, and that the states fit their tables: 10 is never given. Assumes nothing.
+use Prim.Native.Nat.{ℕ, zero, suc, _+_, _-_, _*_, _≤_}
+use mathlib.Core.Path.{_≡_, refl, ap, subst}
+use mathlib.Core.Bool.{Bool, true, false, cond, _||_}
+use mathlib.Core.List.{List, _∷_, _++_}
+use native.Mathlib.Omega.{arith}
+use native.Mathlib.Decide.{ℕ-discrete}
+use lib.Dec.{eqb, leb, ltb}
+use lib.ListN.{length}
+use lib.Seq.{length-take-le}
+use lib.Ieee.{Float}
+use borrow.Author.Tests.{eq-eqb, ne-eqb, le-leb, lt-leb}
+use Rattle.morton.specs.Level.{limit, level, Cell}
+use Rattle.build.specs.declared.Lengths.{Lengths}
+use Rattle.build.specs.declared.Request.{Request}
+use Rattle.build.specs.declared.State.{State}
+use Rattle.build.specs.declared.Answer.the-variants.{Ask, Finished, Refused}
+use Rattle.build.specs.Build.{Tables, outcome, lengthsOf, nodeRoom, finest, items, itemAt, cellTo, sameLengths, countsFit, idleFits, busyFits, fitsAt, fits, fullOf, refusalAt, refusalOf, splitOf, leavesOf, advanceOf, acceptOf, decideOf, distanceOf}
+use Rattle.build.proofs.Laws.{to-cell}
+use Rattle.demands.specs.Grid.{Cells, Covers}
+use Rattle.demands.specs.Run.{nodeKeys, leafKeys, itemsFrom, waiting, openCells}
+use Rattle.demands.proofs.Growth.{grown-count}
+use Rattle.demands.proofs.Cover.{cells-right, grown-covers}
+use Rattle.demands.proofs.Rule.{finest-deep}
+use Rattle.demands.proofs.Items.{length-items}
+use Rattle.demands.proofs.Call.{ask-refused, finished-refused}
+use Rattle.demands.proofs.Trace.{Traced, open-none, open-asked}
+
+module _ {bound : ℕ} {lent : Tables} {given : List Float} (s : State) (t : Tables) (h : Traced bound lent given s t) where
+  -- ---- counts
+
+  pub nodes-count : length (nodeKeys s t) ≡ s .nodes
+  unfolding lengthsOf nodeRoom
+  nodes-count =
+      let r : s .nodes ≤ nodeRoom (lengthsOf t) = subst (λ (z : Lengths). s .nodes ≤ nodeRoom z) (h .tables-same) (h .node-room) in
+      length-take-le (s .nodes) (t .keys) (omega arith)
+
+  pub leaves-count : length (leafKeys s t) ≡ s .leaves
+  unfolding lengthsOf
+  leaves-count = length-take-le (s .leaves) (t .leaves) (subst (λ (z : Lengths). s .leaves ≤ z .leaves) (h .tables-same) (h .leaf-room))
+
+  pub open-count : length (openCells s t) + 8 * s .leaves ≡ 7 * s .nodes + 1
+  open-count = omega (arith, grown-count (h .grown), nodes-count, leaves-count)
+
+  pub count-done : s .asked ≡ 0 → 7 * s .nodes + 1 ≡ 8 * s .leaves
+  count-done e = omega (arith, open-count, ap length (open-none s t e))
+
+  pub count-busy : (s .asked ≡ 0 → ⊥) → 8 * s .leaves ≤ 7 * s .nodes
+  count-busy n = omega (arith, open-count, ap length (open-asked s t n), length-items (t .queue) (s .nodes) (7 * s .nodes - 8 * s .leaves))
+
+  -- ---- cells
+
+  pub covers : Covers (finest bound) (leafKeys s t ++ openCells s t)
+  covers = grown-covers (finest-deep bound (h .bounded)) (h .grown)
+
+  cells-asked : (s .asked ≡ 0 → ⊥) → Cells (finest bound) (s .asked ∷ waiting s t)
+  cells-asked n = subst (Cells (finest bound)) (open-asked s t n) (cells-right (finest bound) (leafKeys s t) (openCells s t) (covers .cells))
+
+  cell-fits : (k : ℕ) → Cell (level k) k × level k ≤ finest bound → cellTo (finest bound) k ≡ true
+  cell-fits k (c, l) = to-cell (finest bound) (level k) k (omega (arith, finest-deep bound (h .bounded))) c l
+
+  -- ---- the tests
+
+  same-fit : sameLengths (s .lengths) (lengthsOf t) ≡ true
+  unfolding sameLengths
+  same-fit = let e : (n : ℕ) → eqb n n ≡ true = λ n. eq-eqb n n refl in
+      rw (← h .tables-same, e (s .lengths .keys), e (s .lengths .distances), e (s .lengths .leaves), e (s .lengths .queue)) refl
+
+  counts-fit : countsFit s (lengthsOf t) (nodeRoom (lengthsOf t)) ≡ true
+  unfolding countsFit
+  counts-fit =
+      rw (
+        ← h .tables-same,
+        le-leb (s .bound) limit (omega (arith, h .bound-same, h .bounded)),
+        le-leb (s .leaves) (s .nodes) (omega (arith, open-count)),
+        le-leb (s .nodes) (nodeRoom (s .lengths)) (h .node-room),
+        le-leb (s .leaves) (s .lengths .leaves) (h .leaf-room),
+      ) refl
+
+  idle-fits : s .asked ≡ 0 → idleFits s ≡ true
+  unfolding idleFits
+  idle-fits e = rw (eq-eqb (s .asked) 0 e, eq-eqb (7 * s .nodes + 1) (8 * s .leaves) (count-done e)) refl
+
+  idle-not : (s .asked ≡ 0 → ⊥) → idleFits s ≡ false
+  unfolding idleFits
+  idle-not n = rw (ne-eqb (s .asked) 0 n) refl
+
+  next-fits : (k : ℕ) → 7 * s .nodes - 8 * s .leaves ≡ k → Cells (finest bound) (itemsFrom (t .queue) (s .nodes) k)
+      → (leb (7 * s .nodes) (8 * s .leaves) || cellTo (finest bound) (itemAt (t .queue) (s .nodes))) ≡ true
+  unfolding itemsFrom
+  next-fits zero e c = rw (le-leb (7 * s .nodes) (8 * s .leaves) (omega arith)) refl
+  next-fits (suc k) e c = rw (lt-leb (7 * s .nodes) (8 * s .leaves) (omega arith)) (cell-fits (itemAt (t .queue) (s .nodes)) (c .0))
+
+  busy-fits : (s .asked ≡ 0 → ⊥) → busyFits s (itemAt (t .queue) (s .nodes)) (finest bound) ≡ true
+  unfolding busyFits
+  busy-fits n =
+      rw (
+        cell-fits (s .asked) (cells-asked n .0),
+        le-leb (8 * s .leaves) (7 * s .nodes) (count-busy n),
+        le-leb (7 * s .nodes - 8 * s .leaves) (s .lengths .queue) (h .queue-room),
+      ) (next-fits (7 * s .nodes - 8 * s .leaves) refl (cells-asked n .1))
+
+  pub fits-traced : fits s t ≡ true
+  unfolding fits fitsAt
+  fits-traced = rw (same-fit, counts-fit, ap finest (h .bound-same)) (go (ℕ-discrete (s .asked) 0))
+    where
+      go : Dec (s .asked ≡ 0) → (idleFits s || busyFits s (itemAt (t .queue) (s .nodes)) (finest bound)) ≡ true
+      go (yes e) = rw (idle-fits e) refl
+      go (no n) = rw (idle-not n) (busy-fits n)
+
+-- ---- a call on a state that fits
+
+cond-most : (b : Bool) (x y n : ℕ) → x ≤ n → y ≤ n → cond b x y ≤ n
+cond-most true x y n h l = h
+cond-most false x y n h l = l
+
+refusal-below : (s : State) (split : Bool) (t : Tables) → fits s t ≡ true → refusalOf s split t ≤ 9
+unfolding fits refusalOf refusalAt fullOf
+refusal-below s split t e =
+    rw e
+    (cond-most (eqb (s .asked) 0) _ _ 9 (omega arith)
+    (cond-most (eqb (s .nodes) (nodeRoom (lengthsOf t))) _ _ 9 (omega arith)
+    (cond-most split _ _ 9
+    (cond-most (ltb (s .lengths .queue) (7 * s .nodes - 8 * s .leaves + 8)) 8 0 9 (omega arith) (omega arith))
+    (cond-most (eqb (s .leaves) (s .lengths .leaves)) 7 0 9 (omega arith) (omega arith)))))
+
+pub refusal-none : (s : State) (split : Bool) (t : Tables) → fits s t ≡ true → (s .asked ≡ 0 → ⊥) → (s .nodes ≡ nodeRoom (lengthsOf t) → ⊥) → fullOf s split ≡ 0
+    → refusalOf s split t ≡ 0
+unfolding fits refusalOf refusalAt
+refusal-none s split t e n r f = rw (e, ne-eqb (s .asked) 0 n, ne-eqb (s .nodes) (nodeRoom (lengthsOf t)) r) f
+
+pub never-10 : (s : State) (d : Float) (t : Tables) → fits s t ≡ true → distanceOf s d t .answer ≡ Refused 10 → ⊥
+unfolding distanceOf decideOf acceptOf advanceOf
+never-10 s d t e =
+    go (eqb (refusalOf s (splitOf s d) t) 0) (ltb (s .nodes) (items (s .nodes + 1) (leavesOf s (splitOf s d)))) _ _ _ _ _ (refusal-below s (splitOf s d) t e)
+  where
+    go : (b c : Bool) (r : Request) (x y : State) (k : ℕ) (t' : Tables) → k ≤ 9
+        → cond b (outcome (cond c (Ask r x) (Finished y)) t') (outcome (Refused k) t) .answer ≡ Refused 10 → ⊥
+    go true true r x y k t' l e = ask-refused r x 10 e
+    go true false r x y k t' l e = finished-refused y 10 e
+    go false c r x y k t' l e = let z : k ≡ 10 = cc in omega arith

@@ -1,0 +1,11 @@
+-- The user's demands, proved: read Demands first. The others stand in the order in which they build on each other.
+pub mod Growth
+pub mod Cover
+pub mod Order
+pub mod Rule
+pub mod Items
+pub mod Call
+pub mod Trace
+pub mod Fits
+pub mod Queue
+pub mod Demands

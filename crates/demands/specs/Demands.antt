@@ -1,0 +1,48 @@
+-- Demand 3 of the user, the half that speaks of building. proofs/Demands.antt proves each of these.
+use Prim.Native.Nat.{ℕ, _+_, _*_, _≤_}
+use mathlib.Core.Path.{_≡_}
+use mathlib.Core.Bool.{true}
+use mathlib.Core.List.{List, _++_, reverse}
+use lib.ListN.{length, take}
+use lib.Ieee.{Float}
+use Rattle.build.specs.declared.State.{State}
+use Rattle.build.specs.declared.Answer.the-variants.{Refused}
+use Rattle.build.specs.Build.{Tables, finest, nodeRoom, lengthsOf, fits, distanceOf}
+use Rattle.demands.specs.Grid.{Covers}
+use Rattle.demands.specs.Run.{Run, nodeKeys, leafKeys, openCells, Ascending}
+
+-- What holds after every accepted distance of a build, and at its start.
+pub record AfterEveryDistance (bound : ℕ) (lent : Tables) (given : List Float) (s : State) (t : Tables) : Type 0 where
+  -- Each cell of the finest grid lies in exactly one cell that is a leaf, is asked for or is waiting, and their volumes add up to the cube.
+  pub covers : Covers (finest bound) (leafKeys s t ++ openCells s t)
+
+  -- The state fits its tables: refusal 10 never comes, whatever distance is given next.
+  pub fitting : fits s t ≡ true
+  pub never-10 : (d : Float) → distanceOf s d t .answer ≡ Refused 10 → ⊥
+
+  -- There is a node for each distance, in the order given; node and leaf keys are strictly ascending.
+  pub nodes : s .nodes ≡ length given
+  pub distances : take (s .nodes) (t .distances) ≡ reverse given
+  pub nodes-ascend : Ascending (nodeKeys s t)
+  pub leaves-ascend : Ascending (leafKeys s t)
+
+  -- With n nodes and m leaves, 7n - 8m wait while a cell is asked, and 7n + 1 = 8m once the build is finished.
+  pub busy : (s .asked ≡ 0 → ⊥) → 8 * s .leaves ≤ 7 * s .nodes
+  pub done : s .asked ≡ 0 → 7 * s .nodes + 1 ≡ 8 * s .leaves
+
+  -- A build ends: no more distances are accepted than the node room.
+  pub ends : length given ≤ nodeRoom (lengthsOf lent)
+
+-- For every build.
+abbrev pub Building : Type 0
+Building =
+    (bound : ℕ) (lent : Tables) (given : List Float) (s : State) (t : Tables)
+    → Run bound lent given s t → AfterEveryDistance bound lent given s t
+
+-- Places of taken queue items are used again: 72 items go through a queue of 64, and bound 2 is finished by any 73 distances.
+abbrev pub QueueOf64 : Type 0
+QueueOf64 =
+    (bound : ℕ) (lent : Tables) (given : List Float)
+    → bound ≤ 2 → 73 ≤ nodeRoom (lengthsOf lent) → 64 ≤ length (lent .leaves) → 64 ≤ length (lent .queue)
+    → length given ≡ 73
+    → (s : State) × (t : Tables) × Run bound lent given s t × (s .asked ≡ 0)
