@@ -15,21 +15,17 @@ use Rattle.demands.specs.Run.{Run, nodeKeys, leafKeys, openCells, Ascend
 pub record AfterEveryDistance (bound : ℕ) (lent : Tables) (given : List Float) (s : State) (t : Tables) : Type 0 where
   -- Each cell of the finest grid lies in exactly one cell that is a leaf, is asked for or is waiting, and their volumes add up to the cube.
   pub covers : Covers (finest bound) (leafKeys s t ++ openCells s t)
-
   -- The state fits its tables: refusal 10 never comes, whatever distance is given next.
   pub fitting : fits s t ≡ true
   pub never-10 : (d : Float) → distanceOf s d t .answer ≡ Refused 10 → ⊥
-
   -- There is a node for each distance, in the order given; node and leaf keys are strictly ascending.
   pub nodes : s .nodes ≡ length given
   pub distances : take (s .nodes) (t .distances) ≡ reverse given
   pub nodes-ascend : Ascending (nodeKeys s t)
   pub leaves-ascend : Ascending (leafKeys s t)
-
   -- With n nodes and m leaves, 7n - 8m wait while a cell is asked, and 7n + 1 = 8m once the build is finished.
   pub busy : (s .asked ≡ 0 → ⊥) → 8 * s .leaves ≤ 7 * s .nodes
   pub done : s .asked ≡ 0 → 7 * s .nodes + 1 ≡ 8 * s .leaves
-
   -- A build ends: no more distances are accepted than the node room.
   pub ends : length given ≤ nodeRoom (lengthsOf lent)
 

@@ -82,22 +82,34 @@ fn give(
     }
 }
 
-// A build over tables of 100 places and a queue that is given, until it is finished or refused; 100 distances are enough for either.
-fn built(bound: u32, field: Field, queue: &mut [u64]) -> Trial {
-    let mut keys = [0u64; 100];
-    let mut distances = [0.0f32; 100];
-    let mut leaves = [0u64; 100];
+// A build until it is finished or refused; 100 distances are enough for either.
+fn run(
+    bound: u32,
+    field: Field,
+    keys: &mut [u64],
+    distances: &mut [f32],
+    leaves: &mut [u64],
+    queue: &mut [u64],
+) -> Trial {
     let mut t = Trial {
-        answer: build::start(bound, &keys, &distances, &leaves, queue),
+        answer: build::start(bound, keys, distances, leaves, queue),
         given: 0,
     };
     let mut left: u32 = 100;
     while 0 < left {
-        let next = give(t, field, &mut keys, &mut distances, &mut leaves, queue);
+        let next = give(t, field, keys, distances, leaves, queue);
         t = next;
         left -= 1;
     }
     t
+}
+
+// The same over tables of 100 places and a queue that is given.
+fn built(bound: u32, field: Field, queue: &mut [u64]) -> Trial {
+    let mut keys = [0u64; 100];
+    let mut distances = [0.0f32; 100];
+    let mut leaves = [0u64; 100];
+    run(bound, field, &mut keys, &mut distances, &mut leaves, queue)
 }
 
 fn is_finished(t: Trial, nodes: usize, leaves: usize) -> bool {
@@ -118,14 +130,19 @@ fn is_refused(t: Trial, number: u32, given: u64) -> bool {
     }
 }
 
-// A queue of 64 places is enough for each.
 fn finishes(bound: u32, key: u64, there: f32, nodes: usize, leaves: usize) -> bool {
-    let mut queue = [0u64; 64];
+    let mut queue = [0u64; 100];
     is_finished(
         built(bound, Field { key, there }, &mut queue),
         nodes,
         leaves,
     )
+}
+
+fn finishes_with_64() -> bool {
+    let mut queue = [0u64; 64];
+    let whole = Field { key: 1, there: 1.0 };
+    is_finished(built(2, whole, &mut queue), 73, 64)
 }
 
 fn is_refused_with_63() -> bool {
@@ -159,9 +176,12 @@ fn main() {
     );
     say(
         b"bound 2, queue 64: finishes, 73 nodes, 64 leaves",
-        finishes(2, 1, 1.0, 73, 64),
+        finishes_with_64(),
     );
-    say(b"bound 2, queue 63: 8 at the ninth distance", is_refused_with_63());
+    say(
+        b"bound 2, queue 63: 8 at the ninth distance",
+        is_refused_with_63(),
+    );
     say(
         b"bound 3, 0.0 for key 64, else 1.0: 81 nodes, 71 leaves",
         finishes(3, 64, 0.0, 81, 71),
