@@ -1,10 +1,11 @@
 /* Mittenhelm's boundary for hosts: numbers and pointers to numbers only.
  *
  * Every function accepts every value of its parameters and returns. A pointer must point to a place that the caller owns
- * and that no other parameter of the same call points to; nothing is kept after the call.
+ * and that no other parameter of the same call points to; nothing is kept after the call. A pointer with a length is a table
+ * of so many places: it must not be null even where the length is 0, and no two tables or places may overlap.
  *
  * A function that can refuse returns 0 where it accepts, and writes its result where the pointer says. Else it returns the
- * refusal's number and writes nothing.
+ * refusal's number and writes nothing: no out parameter, no state and no table.
  *
  * A cell key of level L (0 to 21) is a number from 8^L up to 2 x 8^L - 1: a leading one, then bits of z, y and x in turn, the
  * lowest being x. The cube goes from 0 to 1 on each axis.
@@ -13,6 +14,7 @@
 #define MITTENHELM_H
 
 #include <stdbool.h>
+#include <stddef.h>
 #include <stdint.h>
 
 #ifdef __cplusplus
@@ -25,7 +27,13 @@ enum mittenhelm_refusal {
     MITTENHELM_NOT_A_CELL = 1,    /* not a cell key */
     MITTENHELM_ABOVE_SEVEN = 2,   /* child, corner or side above 7 */
     MITTENHELM_WRONG_LEVEL = 3,   /* child of level 21; or the level given isn't the key's own */
-    MITTENHELM_NOT_A_VERTEX = 4   /* not an inner vertex at that level */
+    MITTENHELM_NOT_A_VERTEX = 4,  /* not an inner vertex at that level */
+    MITTENHELM_ABOVE_FIFTEEN = 5, /* bound above 15 */
+    MITTENHELM_NODES_FULL = 6,    /* no room for another node */
+    MITTENHELM_LEAVES_FULL = 7,   /* unsplit, and no room for another leaf */
+    MITTENHELM_QUEUE_FULL = 8,    /* split, and no room in the queue for eight children */
+    MITTENHELM_NOTHING_ASKED = 9, /* the build is finished */
+    MITTENHELM_NOT_FITTING = 10   /* the state doesn't fit the tables */
 };
 
 /* The level of any number: 0 for 0, else the largest L with 8^L at most the number. */
@@ -64,6 +72,40 @@ uint32_t mittenhelm_side(uint64_t vertex, uint32_t level, uint32_t which, uint64
 
 /* Whether a distance splits an asked cell of the level under a depth bound; of a level above 21, which no cell has: false. */
 bool mittenhelm_should_refine(uint32_t level, uint32_t bound, float distance);
+
+/* A build asks for one distance at a time. The caller owns its state, eight words, and lends it four tables: the nodes'
+ * keys, the nodes' distances, the leaves' keys and a queue, which is a ring of cells that wait. Between two calls the caller
+ * keeps state and tables as the last accepted call left them; a copy of all five can be brought back later, anywhere.
+ *
+ * Node room is the shorter of the first two lengths, at most 4,096. A queue shorter than 64 places lets no build finish. A
+ * finished tree has its n keys and n distances in the first places, and so its m leaves; keys and leaves ascend. */
+enum mittenhelm_state {
+    MITTENHELM_STATE_BOUND = 0,            /* the depth bound of the start */
+    MITTENHELM_STATE_NODES = 1,            /* how many nodes there are so far: n */
+    MITTENHELM_STATE_LEAVES = 2,           /* how many leaves there are so far: m */
+    MITTENHELM_STATE_ASKED = 3,            /* the key whose distance is asked for; 0: none, the build is finished */
+    MITTENHELM_STATE_KEYS_LENGTH = 4,      /* the lengths that the tables had at the start */
+    MITTENHELM_STATE_DISTANCES_LENGTH = 5,
+    MITTENHELM_STATE_LEAVES_LENGTH = 6,
+    MITTENHELM_STATE_QUEUE_LENGTH = 7,
+    MITTENHELM_STATE_WORDS = 8             /* how many words a state has */
+};
+
+/* Begins a build: writes the state, and asks for the root by its key, centre and half size; no table is read or written.
+ * Refusals 5, 10 (other than eight words are no state). */
+uint32_t mittenhelm_start(uint32_t bound,
+    const uint64_t *keys, size_t keys_length, const float *distances, size_t distances_length,
+    const uint64_t *leaves, size_t leaves_length, const uint64_t *queue, size_t queue_length,
+    uint64_t *state, size_t state_length,
+    uint64_t *key, float *x, float *y, float *z, float *half);
+
+/* Takes the distance of the cell that is asked for, and asks for the next one by its key, centre and half size; where none is
+ * left, the state's asked key is 0 and the last five places stay as they were. Refusals 10, 9, 6, then 7 or 8. */
+uint32_t mittenhelm_distance(uint64_t *state, size_t state_length,
+    uint64_t *keys, size_t keys_length, float *distances, size_t distances_length,
+    uint64_t *leaves, size_t leaves_length, uint64_t *queue, size_t queue_length,
+    float distance,
+    uint64_t *key, float *x, float *y, float *z, float *half);
 
 #ifdef __cplusplus
 }

@@ -6,7 +6,11 @@ use std::fs;
 use std::path::{Path, PathBuf};
 
 /// Each published file that is compiled, and its name for `include!`.
-const FILES: [(&str, &str); 1] = [("src--src--morton.rs.txt", "morton.rs")];
+const FILES: [(&str, &str); 3] = [
+    ("src--src--morton.rs.txt", "morton.rs"),
+    ("src--src--linear_hashed_octree.rs.txt", "linear_hashed_octree.rs"),
+    ("src--src--linear_hashed_marching_cubes.rs.txt", "linear_hashed_marching_cubes.rs"),
+];
 
 const LEVEL: &str = "pub fn level(&self) -> usize {";
 

@@ -6,8 +6,9 @@
 use std::error::Error;
 use std::fmt;
 
-/// The functions as C declares them: they take every value, and a refusal, returned as its number, leaves every out parameter
-/// as it was. A `&mut` is all that a pointer has to be there, so each call below is sound.
+/// The functions as C declares them: they take every value, and a refusal, returned as its number, leaves every out parameter,
+/// state and table as it was. A `&mut`, or the pointer of a slice with its length, is all that a pointer has to be there, so each
+/// call below is sound.
 pub mod raw {
     // A `bool` of C is taken as a byte, so that no value of it could be undefined behaviour here.
     extern "C" {
@@ -23,6 +24,42 @@ pub mod raw {
         pub fn mittenhelm_is_inner(vertex: u64, level: u32) -> u8;
         pub fn mittenhelm_side(vertex: u64, level: u32, which: u32, cell: &mut u64) -> u32;
         pub fn mittenhelm_should_refine(level: u32, bound: u32, distance: f32) -> u8;
+        pub fn mittenhelm_start(
+            bound: u32,
+            keys: *const u64,
+            keys_length: usize,
+            distances: *const f32,
+            distances_length: usize,
+            leaves: *const u64,
+            leaves_length: usize,
+            queue: *const u64,
+            queue_length: usize,
+            state: *mut u64,
+            state_length: usize,
+            key: &mut u64,
+            x: &mut f32,
+            y: &mut f32,
+            z: &mut f32,
+            half: &mut f32,
+        ) -> u32;
+        pub fn mittenhelm_distance(
+            state: *mut u64,
+            state_length: usize,
+            keys: *mut u64,
+            keys_length: usize,
+            distances: *mut f32,
+            distances_length: usize,
+            leaves: *mut u64,
+            leaves_length: usize,
+            queue: *mut u64,
+            queue_length: usize,
+            distance: f32,
+            key: &mut u64,
+            x: &mut f32,
+            y: &mut f32,
+            z: &mut f32,
+            half: &mut f32,
+        ) -> u32;
     }
 }
 
@@ -43,6 +80,12 @@ impl Refusal {
             2 => "child, corner or side above 7",
             3 => "child of level 21, or the level given isn't the key's own",
             4 => "not an inner vertex at that level",
+            5 => "bound above 15",
+            6 => "no room for another node",
+            7 => "no room for another leaf",
+            8 => "no room in the queue for eight children",
+            9 => "nothing is asked: the build is finished",
+            10 => "the state doesn't fit the tables",
             _ => "a number that this wrapper doesn't know",
         }
     }
@@ -135,6 +178,106 @@ pub fn should_refine(level: u32, bound: u32, distance: f32) -> bool {
     unsafe { raw::mittenhelm_should_refine(level, bound, distance) != 0 }
 }
 
+/// What a build works in: tables that the caller lends to each of its calls, and that hold the tree in the end.
+#[derive(Debug)]
+pub struct Tables<'a> {
+    /// The nodes' keys, ascending: one place for each node, at most 4,096 of them.
+    pub keys: &'a mut [u64],
+    /// The nodes' distances, as they were given: one place for each node.
+    pub distances: &'a mut [f32],
+    /// The leaves' keys, ascending: one place for each leaf.
+    pub leaves: &'a mut [u64],
+    /// The cells that wait to be asked for, in a ring: at least 64 places, or no build finishes.
+    pub queue: &'a mut [u64],
+}
+
+/// A cell whose distance is asked for: the field's value at its centre.
+#[derive(Clone, Copy, Debug, PartialEq)]
+pub struct Request {
+    pub key: u64,
+    pub centre: [f32; 3],
+    pub half: f32,
+}
+
+/// Where a build stands: eight words, which a caller may keep and bring back with the tables. Words that don't fit are refused.
+#[derive(Clone, Copy, Debug, PartialEq, Eq, Hash)]
+pub struct State(pub [u64; 8]);
+
+impl State {
+    /// The depth bound of the start.
+    pub fn bound(&self) -> u64 {
+        self.0[0]
+    }
+
+    /// How many nodes there are so far.
+    pub fn nodes(&self) -> u64 {
+        self.0[1]
+    }
+
+    /// How many leaves there are so far.
+    pub fn leaves(&self) -> u64 {
+        self.0[2]
+    }
+
+    /// The key of the cell whose distance is asked for, unless the build is finished.
+    pub fn asked(&self) -> Option<u64> {
+        Some(self.0[3]).filter(|&key| key != 0)
+    }
+}
+
+/// Begins a build of a depth bound (0 to 15) in the tables, none of which is read or written yet, and asks for the root.
+pub fn start(bound: u32, tables: &Tables) -> Result<(State, Request), Refusal> {
+    let mut state = [0; 8];
+    let (mut key, [mut x, mut y, mut z, mut half]) = (0, [0.0; 4]);
+    let number = unsafe {
+        raw::mittenhelm_start(
+            bound,
+            tables.keys.as_ptr(),
+            tables.keys.len(),
+            tables.distances.as_ptr(),
+            tables.distances.len(),
+            tables.leaves.as_ptr(),
+            tables.leaves.len(),
+            tables.queue.as_ptr(),
+            tables.queue.len(),
+            state.as_mut_ptr(),
+            state.len(),
+            &mut key,
+            &mut x,
+            &mut y,
+            &mut z,
+            &mut half,
+        )
+    };
+    accepted(number, (State(state), Request { key, centre: [x, y, z], half }))
+}
+
+/// Takes the distance of the cell that is asked for, and says which is asked for next; none, where the build is finished.
+pub fn distance(state: &mut State, tables: &mut Tables, distance: f32) -> Result<Option<Request>, Refusal> {
+    let (mut key, [mut x, mut y, mut z, mut half]) = (0, [0.0; 4]);
+    let number = unsafe {
+        raw::mittenhelm_distance(
+            state.0.as_mut_ptr(),
+            state.0.len(),
+            tables.keys.as_mut_ptr(),
+            tables.keys.len(),
+            tables.distances.as_mut_ptr(),
+            tables.distances.len(),
+            tables.leaves.as_mut_ptr(),
+            tables.leaves.len(),
+            tables.queue.as_mut_ptr(),
+            tables.queue.len(),
+            distance,
+            &mut key,
+            &mut x,
+            &mut y,
+            &mut z,
+            &mut half,
+        )
+    };
+    accepted(number, state.asked().map(|_| Request { key, centre: [x, y, z], half }))
+}
+
 #[cfg(test)]
 mod tests {
     use super::*;
@@ -143,6 +286,8 @@ mod tests {
     fn a_refusal_tells_its_number_and_reason() {
         let told = |number| Refusal { number }.to_string();
         assert_eq!(told(1), "refused 1: not a cell key");
+        assert_eq!(told(10), "refused 10: the state doesn't fit the tables");
+        assert!((1..=10).all(|number| !told(number).contains("doesn't know")));
         assert_eq!(told(99), "refused 99: a number that this wrapper doesn't know");
     }
 }

@@ -11,7 +11,8 @@ use Rattle.build.specs.declared.State.{State}
 use Rattle.build.specs.declared.Answer.the-variants.{Ask, Finished}
 use Rattle.build.specs.Build.{Tables, outcome, itemAt, startOf, distanceOf}
 
--- Each call gets the state and the tables exactly as the last accepted call left them. `given` are the accepted distances, the last one first.
+-- Each call gets the state and the tables exactly as the last accepted call left them; `startOf` and `distanceOf` are what the calls promise to
+-- answer and to leave. `given` are the accepted distances, the last one first.
 pub data Run (bound : ℕ) (lent : Tables) : List Float → State → Tables → Type 0 where
   started : {r : Request} {s : State} → startOf bound lent ≡ Ask r s → Run bound lent [] s lent
   asked : {given : List Float} {r : Request} {s s' : State} {t t' : Tables} (d : Float)

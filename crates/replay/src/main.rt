@@ -1,6 +1,10 @@
-// Replays a fixed sample of the oracle's answers through the key operations and counts the lines that agree. The sample is
-// crates/replay/stdin, written by tools/sample: a line has the words OP A B C STATUS X Y Z in hexadecimal, of 2, 16, 16, 16, 2, 16, 16
-// and 16 digits.
+// Replays a fixed sample of the oracle's answers through the key operations and through builds, and counts the lines that agree. The
+// sample is crates/replay/stdin, written by tools/sample: a line has the words OP A B C STATUS X Y Z in hexadecimal, of 2, 16, 16, 16, 2,
+// 16, 16 and 16 digits.
+use build::Answer;
+use build::Lengths;
+use build::Request;
+use build::State;
 use libc::STDIN_FILENO;
 use libc::STDOUT_FILENO;
 use morton::CentreAnswer;
@@ -23,7 +27,7 @@ struct Line {
 }
 
 struct Tally {
-    agree: [u64; 12],
+    agree: [u64; 16],
     differ: u64,
 }
 
@@ -162,11 +166,214 @@ fn agrees(l: Line) -> bool {
     }
 }
 
-fn counted(t: Tally, l: Line) -> Tally {
-    let mut agree = t.agree;
+// ---- builds: `start` begins one over tables that are all 0, as long as B says; `distance` goes on with it.
+
+// The state of the build at hand, and whether the last line agreed.
+struct Step {
+    state: State,
+    same: bool,
+}
+
+fn no_build() -> State {
+    State {
+        bound: 0,
+        nodes: 0,
+        leaves: 0,
+        asked: 0,
+        lengths: Lengths {
+            keys: 0,
+            distances: 0,
+            leaves: 0,
+            queue: 0,
+        },
+    }
+}
+
+fn same_request(r: Request, l: Line) -> bool {
+    if r.key != l.x {
+        return false;
+    }
+    if r.x != float(l.y) {
+        return false;
+    }
+    if r.y != float(l.y >> 32) {
+        return false;
+    }
+    if r.z != float(l.z) {
+        return false;
+    }
+    r.half == float(l.z >> 32)
+}
+
+fn same_answer(answer: Answer, was: State, l: Line) -> Step {
+    match answer {
+        Answer::Ask(r, s) => {
+            let same = if l.status == 0 {
+                same_request(r, l)
+            } else {
+                false
+            };
+            Step { state: s, same }
+        }
+        Answer::Finished(s) => {
+            let same = if l.status == 0 { l.x == 0 } else { false };
+            Step { state: s, same }
+        }
+        Answer::Refused(number) => Step {
+            state: was,
+            same: number == l.status,
+        },
+    }
+}
+
+fn clear_keys(table: &mut [u64]) {
+    let mut i = 0;
+    while i < table.len() {
+        table[i] = 0;
+        i += 1;
+    }
+}
+
+fn clear_distances(table: &mut [f32]) {
+    let mut i = 0;
+    while i < table.len() {
+        table[i] = 0.0;
+        i += 1;
+    }
+}
+
+fn at_most(n: usize, most: usize) -> usize
+    ensures { λ r. ⌜ r ≤ most ⌝ }
+{
+    if n < most { n } else { most }
+}
+
+// One of the four lengths that are packed in a word, at most the table's own.
+fn length_at(packed: u64, shift: u32, most: usize) -> usize
+    requires { ⌜ shift < 64 ⌝ }
+    ensures { λ r. ⌜ r ≤ most ⌝ }
+{
+    at_most((packed >> shift) as usize % 0x1_0000, most)
+}
+
+fn clear(keys: &mut [u64], distances: &mut [f32], leaves: &mut [u64], queue: &mut [u64]) {
+    clear_keys(keys);
+    clear_distances(distances);
+    clear_keys(leaves);
+    clear_keys(queue);
+}
+
+fn start(
+    l: Line,
+    was: State,
+    keys: &[u64],
+    distances: &[f32],
+    leaves: &[u64],
+    queue: &[u64],
+) -> Step {
+    let a = length_at(l.wide_b, 0, keys.len());
+    let b = length_at(l.wide_b, 16, distances.len());
+    let c = length_at(l.wide_b, 32, leaves.len());
+    let d = length_at(l.wide_b, 48, queue.len());
+    let answer = build::start(
+        narrow(l.a),
+        &keys[..a],
+        &distances[..b],
+        &leaves[..c],
+        &queue[..d],
+    );
+    same_answer(answer, was, l)
+}
+
+fn distance(
+    l: Line,
+    s: State,
+    keys: &mut [u64],
+    distances: &mut [f32],
+    leaves: &mut [u64],
+    queue: &mut [u64],
+) -> Step {
+    let z = s.lengths;
+    let a = at_most(z.keys, keys.len());
+    let b = at_most(z.distances, distances.len());
+    let c = at_most(z.leaves, leaves.len());
+    let d = at_most(z.queue, queue.len());
+    let answer = build::distance(
+        s,
+        &mut keys[..a],
+        &mut distances[..b],
+        &mut leaves[..c],
+        &mut queue[..d],
+        float(l.a),
+    );
+    same_answer(answer, s, l)
+}
+
+fn key_at(table: &[u64], at: usize) -> u64 {
+    if at < table.len() { table[at] } else { 0 }
+}
+
+fn distance_at(table: &[f32], at: usize) -> f32 {
+    if at < table.len() { table[at] } else { 0.0 }
+}
+
+// The sign of a zero counts, the bits of a NaN don't.
+fn same_float(v: f32, w: f32) -> bool {
+    if w != w {
+        return v != v;
+    }
+    if v == w {
+        return 1.0 / v == 1.0 / w;
+    }
+    false
+}
+
+fn same_keys(l: Line, keys: &[u64], leaves: &[u64], queue: &[u64]) -> bool {
+    let at = l.a as usize;
+    if key_at(keys, at) != l.x {
+        return false;
+    }
+    if key_at(leaves, at) != l.y {
+        return false;
+    }
+    key_at(queue, at) == l.z
+}
+
+// One line: of a build, or of keys.
+fn replay_line(
+    l: Line,
+    s: State,
+    keys: &mut [u64],
+    distances: &mut [f32],
+    leaves: &mut [u64],
+    queue: &mut [u64],
+) -> Step {
     let op = l.op;
-    if op < 12 {
-        if agrees(l) {
+    match op {
+        12 => {
+            clear(keys, distances, leaves, queue);
+            start(l, s, keys, distances, leaves, queue)
+        }
+        13 => distance(l, s, keys, distances, leaves, queue),
+        14 => Step {
+            state: s,
+            same: same_keys(l, keys, leaves, queue),
+        },
+        15 => Step {
+            state: s,
+            same: same_float(distance_at(distances, l.a as usize), float(l.x)),
+        },
+        _ => Step {
+            state: s,
+            same: agrees(l),
+        },
+    }
+}
+
+fn counted(t: Tally, op: usize, same: bool) -> Tally {
+    let mut agree = t.agree;
+    if op < 16 {
+        if same {
             agree[op] = std::num::wrapping_add_u64(agree[op], 1);
             return Tally {
                 agree,
@@ -193,7 +400,11 @@ fn print_name(op: usize) {
         8 => io::write_all(STDOUT_FILENO, b"vertex "),
         9 => io::write_all(STDOUT_FILENO, b"is_inner "),
         10 => io::write_all(STDOUT_FILENO, b"side "),
-        _ => io::write_all(STDOUT_FILENO, b"should_refine "),
+        11 => io::write_all(STDOUT_FILENO, b"should_refine "),
+        12 => io::write_all(STDOUT_FILENO, b"start "),
+        13 => io::write_all(STDOUT_FILENO, b"distance "),
+        14 => io::write_all(STDOUT_FILENO, b"keys at a place "),
+        _ => io::write_all(STDOUT_FILENO, b"distance at a place "),
     }
     ;
 }
@@ -203,32 +414,44 @@ fn print_count(n: u64) {
     io::write_all(STDOUT_FILENO, b"\n");
 }
 
-fn show(agree: [u64; 12]) {
+fn show(agree: [u64; 16]) {
     let mut op = 0;
-    while op < 12 {
+    while op < 16 {
         print_name(op);
         print_count(agree[op]);
         op += 1;
     }
 }
 
-fn main() {
-    let none = [0u64; 12];
+fn replay(keys: &mut [u64], distances: &mut [f32], leaves: &mut [u64], queue: &mut [u64]) -> Tally {
+    let none = [0u64; 16];
     let mut t = Tally {
         agree: none,
         differ: 0,
     };
+    let mut s = no_build();
     let mut left: u32 = 100_000;
     while 0 < left {
         let l = read_line();
         if l.whole {
-            let next = counted(t, l);
+            let step = replay_line(l, s, keys, distances, leaves, queue);
+            s = step.state;
+            let next = counted(t, l.op, step.same);
             t = next;
             left -= 1;
         } else {
             left = 0;
         }
     }
+    t
+}
+
+fn main() {
+    let mut keys = [0u64; 1024];
+    let mut distances = [0.0f32; 1024];
+    let mut leaves = [0u64; 1024];
+    let mut queue = [0u64; 1024];
+    let t = replay(&mut keys, &mut distances, &mut leaves, &mut queue);
     let agree = t.agree;
     show(agree);
     io::write_all(STDOUT_FILENO, b"differ ");

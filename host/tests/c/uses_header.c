@@ -1,4 +1,4 @@
-/* Uses every function of the header once, in the language that C and C++ share. Exits 0 if each answers as document 01 says. */
+/* Uses every function of the header, in the language that C and C++ share. Exits 0 if each answers as document 01 says. */
 #include "mittenhelm.h"
 
 #include <math.h>
@@ -14,10 +14,44 @@ static void expect(bool holds, const char *what)
     }
 }
 
+/* A build of bound 2, with a queue of so many places: the number of the distance that was refused, or 0 where it finishes. */
+static unsigned refused_at(size_t queue_length, uint32_t *refusal)
+{
+    static uint64_t keys[73], leaves[64], queue[64];
+    static float distances[73];
+    uint64_t state[MITTENHELM_STATE_WORDS], key = 5;
+    float x = 5, y = 5, z = 5, half = 5;
+    unsigned given = 0;
+
+    *refusal = mittenhelm_start(2, keys, 73, distances, 73, leaves, 64, queue, queue_length, state, 8, &key, &x, &y, &z, &half);
+    expect(*refusal == MITTENHELM_ACCEPTED, "start");
+    expect(key == 1 && x == 0.5f && y == 0.5f && z == 0.5f && half == 0.5f, "the root is asked for first");
+    while (state[MITTENHELM_STATE_ASKED] != 0) {
+        expect(state[MITTENHELM_STATE_ASKED] == key && state[MITTENHELM_STATE_NODES] == given, "state");
+        given++;
+        *refusal = mittenhelm_distance(state, 8, keys, 73, distances, 73, leaves, 64, queue, queue_length, (float)given,
+            &key, &x, &y, &z, &half);
+        if (*refusal != MITTENHELM_ACCEPTED)
+            return given;
+    }
+    expect(given == 73 && state[MITTENHELM_STATE_NODES] == 73 && state[MITTENHELM_STATE_LEAVES] == 64, "counts");
+    expect(keys[0] == 1 && keys[9] == 64 && keys[72] == 127 && leaves[0] == 64 && leaves[63] == 127, "keys and leaves");
+    expect(distances[0] == 1.0f && distances[72] == 73.0f, "distances");
+    expect(key == 127 && x == 0.875f && y == 0.875f && z == 0.875f && half == 0.125f, "the last cell that was asked for");
+    *refusal = mittenhelm_distance(state, 8, keys, 73, distances, 73, leaves, 64, queue, queue_length, 1.0f,
+        &key, &x, &y, &z, &half);
+    expect(*refusal == MITTENHELM_NOTHING_ASKED, "a distance after the last");
+    *refusal = mittenhelm_distance(state, 8, keys, 72, distances, 73, leaves, 64, queue, queue_length, 1.0f,
+        &key, &x, &y, &z, &half);
+    expect(*refusal == MITTENHELM_NOT_FITTING, "another table");
+    return 0;
+}
+
 int main(void)
 {
     const uint64_t middle = UINT64_C(0xf000000000000000);
     uint64_t number = 5;
+    uint32_t refusal;
     float h = 5, x = 5, y = 5, z = 5;
 
     expect(mittenhelm_level(64) == 2, "level");
@@ -43,5 +77,8 @@ int main(void)
 
     expect(mittenhelm_should_refine(2, 3, 14529495.0f / 67108864.0f), "should_refine");
     expect(!mittenhelm_should_refine(2, 3, NAN), "should_refine of NaN");
+
+    expect(refused_at(64, &refusal) == 0, "a queue of 64");
+    expect(refused_at(63, &refusal) == 9 && refusal == MITTENHELM_QUEUE_FULL, "a queue of 63");
     return wrong;
 }

@@ -112,6 +112,21 @@ impl Random {
         f32::from_bits(bits ^ sign)
     }
 
+    /// From 0 up to less than 1.
+    pub fn fraction(&mut self) -> f32 {
+        self.below(1 << 24) as f32 / (1 << 24) as f32
+    }
+
+    /// A point of the cube.
+    pub fn point(&mut self) -> [f32; 3] {
+        [self.fraction(), self.fraction(), self.fraction()]
+    }
+
+    /// The float with either sign.
+    pub fn signed(&mut self, x: f32) -> f32 {
+        f32::from_bits(x.to_bits() ^ (self.bits() as u32) << 31)
+    }
+
     /// A depth bound: mostly near the level, else any.
     pub fn bound(&mut self, level: u32) -> u32 {
         match self.below(4) {

@@ -1,14 +1,16 @@
 //! What the oracle answers to each call: both builds of the published text, and a plain model of document 01 for what the
-//! text has no counterpart to (refusals, whether a number is a cell key or an inner vertex) or that stands in a file that is not
-//! compiled here (the split rule).
+//! text has no counterpart to (refusals, states and lent tables, whether a number is a cell key or an inner vertex) or that it has no
+//! function of its own for (the split rule).
 
 pub use oracle_integer as integer;
 pub use oracle_published as published;
 
 pub mod edges;
+pub mod fields;
 pub mod inputs;
 pub mod model;
 pub mod sample;
+pub mod trees;
 
 use std::env;
 use std::io::{self, Write};

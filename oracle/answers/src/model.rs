@@ -1,6 +1,8 @@
 //! Document 01, "Keys" and the split rule, bit by bit and with whole numbers. It is slow on purpose: no masks, no shifts by
 //! level, no logarithm, so that it shares no method with the library or the published text.
 
+pub mod build;
+
 /// No cell key has a greater level.
 pub const DEEPEST: u32 = 21;
 

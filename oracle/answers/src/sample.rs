@@ -9,6 +9,8 @@ use crate::{integer, model, splits_in_f32};
 use model::{Answer, DEEPEST};
 use std::fmt::Write;
 
+mod builds;
+
 const LEVEL: u8 = 0x00;
 const IS_CELL: u8 = 0x01;
 const PARENT: u8 = 0x02;
@@ -30,6 +32,7 @@ pub fn text() -> String {
     sample.cells();
     sample.vertices();
     sample.splits();
+    sample.builds();
     sample.text
 }
 

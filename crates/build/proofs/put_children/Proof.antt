@@ -41,7 +41,7 @@ loop-less : tie.Need-loop-less Inv-loop μ-loop
 loop-less c = omega arith
 
 loop-again : tie.Need-loop-again Inv-loop μ-loop
-loop-again c = putting-more _ _ _ _ _ _ _ (c .before .before .loop .inv) (c .before .loop-test .taken) (c .after .ensures)
+loop-again c = putting-more _ _ _ _ _ _ _ (c .before .before .loop .inv) (omega (arith, c .before .loop-test .taken)) (c .after .ensures)
 
 same-length : tie.Need-same-length Inv-loop μ-loop
 same-length c = putting-length _ _ _ _ _ _ (c .before .loop .inv)

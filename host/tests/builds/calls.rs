@@ -1,0 +1,214 @@
+//! One call of start or distance: ours beside the model of document 01. After each, all eight words of the state, every place of
+//! every table and every out parameter must be the model's, and what lies around them as it was.
+
+use mittenhelm::raw::{mittenhelm_distance, mittenhelm_start};
+use oracle_answers::model::build::{self, Request, Tables};
+use oracle_answers::model::Answer;
+use std::fmt::Debug;
+
+/// Places before and behind each lent part, where nothing may be written.
+const FENCE: usize = 8;
+const FENCE_WORD: u64 = 0xfe2c_edfe_2ced_fe2c;
+const FENCE_FLOAT: u32 = 0xfe2c_edfe;
+
+/// What out parameters hold before a call.
+const UNTOUCHED: Bits = (0xdead_beef_0bad_cafe, [0xc2f6_e979, 0x7fc1_2345, 0x0000_0007, 0xff80_0001]);
+
+/// A request with its floats as bits: key, then x, y, z and half size.
+pub type Bits = (u64, [u32; 4]);
+
+pub fn bits(request: &Request) -> Bits {
+    let [x, y, z] = request.centre;
+    (request.key, [x, y, z, request.half].map(f32::to_bits))
+}
+
+/// How often each refusal was seen, and each kind of acceptance.
+#[derive(Debug, Default)]
+pub struct Seen {
+    pub refused: [u64; 11],
+    pub started: u64,
+    pub split: u64,
+    pub unsplit: u64,
+    pub finished: u64,
+}
+
+impl Seen {
+    /// Asserts that of each number in the list, and of each kind of accepted distance, so many were seen.
+    pub fn assert_often(&self, times: u64, numbers: &[usize]) {
+        for &number in numbers {
+            assert!(self.refused[number] >= times, "refusal {number} was too rare: {self:?}");
+        }
+        assert!(self.split >= times && self.unsplit >= times && self.finished >= times, "{self:?}");
+    }
+}
+
+/// Lent memory with a fence on both sides.
+#[derive(Clone)]
+struct Fenced<T> {
+    memory: Vec<T>,
+    fence: T,
+}
+
+impl<T: Copy + PartialEq + Debug> Fenced<T> {
+    fn new(part: &[T], fence: T) -> Self {
+        let mut memory = vec![fence; FENCE];
+        memory.extend_from_slice(part);
+        memory.resize(memory.len() + FENCE, fence);
+        Fenced { memory, fence }
+    }
+
+    fn part(&self) -> &[T] {
+        &self.memory[FENCE..self.memory.len() - FENCE]
+    }
+
+    /// The part, for the call to write to.
+    fn lend(&mut self) -> &mut [T] {
+        let end = self.memory.len() - FENCE;
+        &mut self.memory[FENCE..end]
+    }
+
+    fn assert_holds(&self, expected: &[T], what: &str, call: &impl Fn() -> String) {
+        let (before, rest) = self.memory.split_at(FENCE);
+        let (part, behind) = rest.split_at(expected.len());
+        if part != expected {
+            let place = (0..part.len()).find(|&i| part[i] != expected[i]).expect("a place that differs");
+            let (ours, model) = (part[place], expected[place]);
+            panic!("{}: place {place} of the {what} is {ours:x?}, the model says {model:x?}", call());
+        }
+        let kept = before.iter().chain(behind).all(|place| *place == self.fence);
+        assert!(kept, "{}: written beside the {what}", call());
+    }
+}
+
+/// Ours and the model's, side by side: a state and four tables each.
+#[derive(Clone)]
+pub struct Pair {
+    state: Fenced<u64>,
+    keys: Fenced<u64>,
+    distances: Fenced<u32>,
+    leaves: Fenced<u64>,
+    queue: Fenced<u64>,
+    /// What the state must hold.
+    pub words: Vec<u64>,
+    /// What the tables must hold.
+    pub tables: Tables,
+}
+
+impl Pair {
+    pub fn new(words: Vec<u64>, tables: Tables) -> Self {
+        Pair {
+            state: Fenced::new(&words, FENCE_WORD),
+            keys: Fenced::new(&tables.keys, FENCE_WORD),
+            distances: Fenced::new(&tables.distances, FENCE_FLOAT),
+            leaves: Fenced::new(&tables.leaves, FENCE_WORD),
+            queue: Fenced::new(&tables.queue, FENCE_WORD),
+            words,
+            tables,
+        }
+    }
+
+    pub fn start(&mut self, bound: u32, seen: &mut Seen) -> Answer<Request> {
+        let expected = build::start(bound, &self.tables, &mut self.words);
+        let (keys, distances) = (self.keys.part(), self.distances.part());
+        let (leaves, queue) = (self.leaves.part(), self.queue.part());
+        let state = self.state.lend();
+        let (mut key, [mut x, mut y, mut z, mut half]) = untouched();
+        let number = unsafe {
+            mittenhelm_start(
+                bound,
+                keys.as_ptr(),
+                keys.len(),
+                distances.as_ptr().cast(),
+                distances.len(),
+                leaves.as_ptr(),
+                leaves.len(),
+                queue.as_ptr(),
+                queue.len(),
+                state.as_mut_ptr(),
+                state.len(),
+                &mut key,
+                &mut x,
+                &mut y,
+                &mut z,
+                &mut half,
+            )
+        };
+        let call = || format!("start({bound}), tables of {:?}, {} words", self.tables.lengths(), self.words.len());
+        assert_answered(number, (key, [x, y, z, half]), &expected.map(Some), &call);
+        self.assert_same(&call);
+        match expected {
+            Ok(_) => seen.started += 1,
+            Err(number) => seen.refused[number as usize] += 1,
+        }
+        expected
+    }
+
+    pub fn distance(&mut self, distance: f32, seen: &mut Seen) -> Answer<Option<Request>> {
+        let before = self.words.clone();
+        let expected = build::distance(&mut self.words, &mut self.tables, distance);
+        let (state, keys, distances) = (self.state.lend(), self.keys.lend(), self.distances.lend());
+        let (leaves, queue) = (self.leaves.lend(), self.queue.lend());
+        let (mut key, [mut x, mut y, mut z, mut half]) = untouched();
+        let number = unsafe {
+            mittenhelm_distance(
+                state.as_mut_ptr(),
+                state.len(),
+                keys.as_mut_ptr(),
+                keys.len(),
+                distances.as_mut_ptr().cast(),
+                distances.len(),
+                leaves.as_mut_ptr(),
+                leaves.len(),
+                queue.as_mut_ptr(),
+                queue.len(),
+                distance,
+                &mut key,
+                &mut x,
+                &mut y,
+                &mut z,
+                &mut half,
+            )
+        };
+        let lengths = self.tables.lengths();
+        let call = || format!("distance({:#x}) in the state {before:x?}, tables of {lengths:x?}", distance.to_bits());
+        assert_answered(number, (key, [x, y, z, half]), &expected, &call);
+        // No promise settles the bits of a NaN: the place of the node has to hold one.
+        if expected.is_ok() && distance.is_nan() {
+            let (place, kept) = (before[1] as usize, self.distances.part()[before[1] as usize]);
+            assert!(f32::from_bits(kept).is_nan(), "{}: place {place} of the node distances is {kept:#x}", call());
+            self.tables.distances[place] = kept;
+        }
+        self.assert_same(&call);
+        match expected {
+            Ok(None) => seen.finished += 1,
+            Ok(_) if self.words[2] == before[2] => seen.split += 1,
+            Ok(_) => seen.unsplit += 1,
+            Err(number) => seen.refused[number as usize] += 1,
+        }
+        expected
+    }
+
+    fn assert_same(&self, call: &impl Fn() -> String) {
+        self.state.assert_holds(&self.words, "state", call);
+        self.keys.assert_holds(&self.tables.keys, "node keys", call);
+        self.distances.assert_holds(&self.tables.distances, "node distances", call);
+        self.leaves.assert_holds(&self.tables.leaves, "leaf keys", call);
+        self.queue.assert_holds(&self.tables.queue, "queue", call);
+    }
+}
+
+fn untouched() -> (u64, [f32; 4]) {
+    (UNTOUCHED.0, UNTOUCHED.1.map(f32::from_bits))
+}
+
+/// The returned number is the model's, and so is what is asked next. Where nothing is asked, no out parameter was written.
+fn assert_answered(number: u32, out: (u64, [f32; 4]), expected: &Answer<Option<Request>>, call: &impl Fn() -> String) {
+    let refusal = expected.as_ref().err().copied().unwrap_or(0);
+    assert!(number == refusal, "{}: ours returns {number}, the model says {refusal}", call());
+    let out = (out.0, out.1.map(f32::to_bits));
+    let asked = match expected {
+        Ok(Some(request)) => bits(request),
+        _ => UNTOUCHED,
+    };
+    assert!(out == asked, "{}: ours asks for {out:x?}, the model for {asked:x?}", call());
+}

@@ -1,0 +1,8 @@
+//! Start and distance of the boundary against the published text, both builds of it, and against the model of document 01.
+
+mod calls;
+mod conditions;
+mod examples;
+mod fields;
+mod forged;
+mod rooms;

@@ -1,0 +1,108 @@
+//! Whole trees over a field: by the rule of document 01, and by both builds of the published text.
+
+use crate::model::build::Request;
+use crate::{integer, model, published};
+use std::collections::VecDeque;
+
+/// A distance for each point of the cube. The published text knows no other fields.
+pub type Field = dyn Fn([f32; 3]) -> f32;
+
+/// A node as it was asked for, and the distance that was given.
+#[derive(Clone, Copy, Debug)]
+pub struct Node {
+    pub request: Request,
+    pub distance: f32,
+}
+
+/// The nodes in the order in which they were asked for, and the leaves in order. Both ascend.
+pub struct Tree {
+    pub nodes: Vec<Node>,
+    pub leaves: Vec<u64>,
+}
+
+impl Tree {
+    fn of((nodes, leaves): (Vec<integer::Node>, Vec<u64>)) -> Self {
+        let node = |(key, centre, half, distance)| Node { request: Request { key, centre, half }, distance };
+        let tree = Tree { nodes: nodes.into_iter().map(node).collect(), leaves };
+        assert!(tree.nodes.windows(2).all(|two| two[0].request.key < two[1].request.key));
+        assert!(tree.leaves.windows(2).all(|two| two[0] < two[1]));
+        tree
+    }
+
+    /// As the text with the integer level builds it.
+    pub fn by_integer(bound: u32, field: &Field) -> Self {
+        Tree::of(integer::build_octree(bound as usize, field))
+    }
+
+    /// As the text builds it.
+    pub fn by_published(bound: u32, field: &Field) -> Self {
+        Tree::of(published::build_octree(bound as usize, field))
+    }
+
+    /// As document 01's split rule says, without rooms.
+    pub fn by_rule(bound: u32, field: &Field) -> Self {
+        let (mut nodes, mut leaves) = (Vec::new(), Vec::new());
+        let mut queue = VecDeque::from([1]);
+        while let Some(key) = queue.pop_front() {
+            let (centre, half) = (model::centre(key).expect("a cell"), model::half_size(key).expect("a cell"));
+            let distance = field(centre);
+            nodes.push((key, centre, half, distance));
+            if model::should_refine(model::level(key), bound, distance) {
+                queue.extend((0..8).map(|which| 8 * key + which));
+            } else {
+                leaves.push(key);
+            }
+        }
+        Tree::of((nodes, leaves))
+    }
+
+    pub fn is_leaf(&self, key: u64) -> bool {
+        self.leaves.binary_search(&key).is_ok()
+    }
+
+    pub fn place_of(&self, key: u64) -> Option<usize> {
+        self.nodes.binary_search_by_key(&key, |node| node.request.key).ok()
+    }
+
+    /// How many items wait while each node is asked for.
+    pub fn waiting(&self) -> Vec<usize> {
+        let mut queued = 1;
+        let waiting = self.nodes.iter().enumerate().map(|(taken, node)| {
+            let waiting = queued - taken - 1;
+            queued += if self.is_leaf(node.request.key) { 0 } else { 8 };
+            waiting
+        });
+        waiting.collect()
+    }
+
+    /// The least lengths with which its build finishes: node keys, node distances, leaves and queue.
+    pub fn needs(&self) -> [usize; 4] {
+        let splits = self.nodes.iter().zip(self.waiting()).filter(|(node, _)| !self.is_leaf(node.request.key));
+        let queue = splits.map(|(_, waiting)| waiting + 8).max().expect("the root is split");
+        [self.nodes.len(), self.nodes.len(), self.leaves.len(), queue]
+    }
+}
+
+/// For each node of the integer tree that no differing level reaches, its place in the published one: the published level of its
+/// key is right, and at no ancestor did a wrong level change whether it is split.
+pub fn unreached(integer: &Tree, published: &Tree) -> Vec<Option<usize>> {
+    // Whether the children of a node are in both trees or in neither.
+    let mut alike = Vec::with_capacity(integer.nodes.len());
+    let mut places = Vec::with_capacity(integer.nodes.len());
+    for node in &integer.nodes {
+        let key = node.request.key;
+        let in_both = integer.place_of(key / 8).map_or(true, |parent| alike[parent]);
+        if !in_both {
+            alike.push(false);
+            places.push(None);
+            continue;
+        }
+        let place = published.place_of(key).unwrap_or_else(|| panic!("the published tree has no node {key}"));
+        let is_right = published::level(key) == integer::level(key);
+        let same = integer.is_leaf(key) == published.is_leaf(key);
+        assert!(same || !is_right, "both give {key} its level, and only one splits it");
+        alike.push(same);
+        places.push(Some(place).filter(|_| is_right));
+    }
+    places
+}
