@@ -1,5 +1,5 @@
 -- The request for a cell, from what its centre and half size promise. Assumes nothing.
-use Prim.Native.Nat.{ℕ}
+use Prim.Native.Nat.{ℕ, _+_, _*_, _^_}
 use mathlib.Core.Path.{_≡_, sym, _∙_, subst}
 use mathlib.Core.Bool.{true, false, false≢true}
 use lib.Ieee.{Float}
@@ -9,10 +9,12 @@ use Rattle.morton.specs.declared.SizeAnswer.the-variants as size
 use Rattle.morton.specs.declared.CentreAnswer.{CentreAnswer}
 use Rattle.morton.specs.declared.CentreAnswer.the-variants as centre
 use Rattle.morton.specs.Answers.{HalfSizeSays, CentreSays, OnAxis}
+use Rattle.morton.specs.Exact.{Exactly}
+use Rattle.morton.specs.Field.{coord}
 use Rattle.morton.specs.Level.{level, isCell}
 use Rattle.morton.proofs.Fields.{coord-lt}
 use Rattle.morton.proofs.Levels.{level-le}
-use Rattle.morton.proofs.Sizes.{centre-is, half-is}
+use Rattle.morton.proofs.Sizes.{half-exactly, centre-exactly, centre-is, half-is}
 use Rattle.build.specs.Build.{centreOf, halfOf, requestOf}
 use Rattle.build.specs.declared.Request.{Request}
 
@@ -34,3 +36,16 @@ centre-there key n a c s e = false≢true (sym (subst (λ (a : CentreAnswer). Ce
 
 pub size-there : (key n : ℕ) (a : SizeAnswer) → isCell key ≡ true → HalfSizeSays key a → a ≡ size.Refused n → ⊥
 size-there key n a c s e = false≢true (sym (subst (λ (a : SizeAnswer). HalfSizeSays key a) e s .0) ∙ c)
+
+-- ---- the definition's floats are the fractions that document 01 names
+
+pub half-means : (key : ℕ) → Exactly (halfOf key) 1 (2 ^ (level key + 1))
+unfolding halfOf
+half-means key =
+    let e = half-exactly (level key) (level-le key) in
+    subst (λ (x : Float). Exactly x 1 (2 ^ (level key + 1))) (half-is _ (level key) (level-le key) e) e
+
+pub centre-means : (key a : ℕ) → Exactly (centreOf key a) (2 * coord (level key) key a + 1) (2 ^ (level key + 1))
+centre-means key a =
+    let e = centre-exactly (coord (level key) key a) (level key) (halfOf key) (level-le key) (coord-lt (level key) key a) (half-means key) in
+    subst (λ (x : Float). Exactly x (2 * coord (level key) key a + 1) (2 ^ (level key + 1))) (on-axis key a _ e) e

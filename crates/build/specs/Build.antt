@@ -54,7 +54,7 @@ items n m = 8 * (n - m)
 -- ---- a request
 
 -- A request carries the key, the three centre coordinates, (2c + 1) / 2^(L+1) on each axis, and the half size, 1 / 2^(L+1). The number
--- `fin false n (negsuc L)` is n x 2^-(L+1).
+-- `fin false n (negsuc L)` is n x 2^-(L+1): `centre-means` and `half-means` prove that these are the fractions, exactly.
 unfoldable pub centreOf : ℕ → ℕ → Float
 centreOf key axis = fin false (2 * coord (level key) key axis + 1) (negsuc (level key))
 

@@ -65,7 +65,7 @@ fn ask_for(key: u64) -> Request
 {
     let cell = Key { code: key };
     let centre = cell.centre();
-    let size = Key { code: key }.half_size();
+    let size = cell.half_size();
     match centre {
         CentreAnswer::Is(p) => {
             match size {
@@ -143,7 +143,7 @@ fn is_cell_to(key: u64, top: u32) -> bool
     if !cell.is_cell() {
         return false;
     }
-    Key { code: key }.level() <= top
+    cell.level() <= top
 }
 
 fn same_lengths(a: Lengths, b: Lengths) -> bool

@@ -9,7 +9,7 @@ use Rattle.build.specs.declared.State.{State}
 use Rattle.build.specs.declared.Answer.the-variants.{Refused}
 use Rattle.build.specs.Build.{Tables, finest, nodeRoom, lengthsOf, fits, distanceOf}
 use Rattle.demands.specs.Grid.{Covers}
-use Rattle.demands.specs.Run.{Run, nodeKeys, leafKeys, openCells, Ascending}
+use Rattle.demands.specs.Run.{Run, nodeKeys, leafKeys, waiting, openCells, Ascending}
 
 -- What holds after every accepted distance of a build, and at its start.
 pub record AfterEveryDistance (bound : ℕ) (lent : Tables) (given : List Float) (s : State) (t : Tables) : Type 0 where
@@ -24,7 +24,7 @@ pub record AfterEveryDistance (bound : ℕ) (lent : Tables) (given : List Float)
   pub nodes-ascend : Ascending (nodeKeys s t)
   pub leaves-ascend : Ascending (leafKeys s t)
   -- With n nodes and m leaves, 7n - 8m wait while a cell is asked, and 7n + 1 = 8m once the build is finished.
-  pub busy : (s .asked ≡ 0 → ⊥) → 8 * s .leaves ≤ 7 * s .nodes
+  pub busy : (s .asked ≡ 0 → ⊥) → length (waiting s t) + 8 * s .leaves ≡ 7 * s .nodes
   pub done : s .asked ≡ 0 → 7 * s .nodes + 1 ≡ 8 * s .leaves
   -- A build ends: no more distances are accepted than the node room.
   pub ends : length given ≤ nodeRoom (lengthsOf lent)

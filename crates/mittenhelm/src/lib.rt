@@ -13,7 +13,7 @@ ghost use lib.Dec.{leb};
 ghost use lib.ListN.{length, getD};
 ghost use Rattle.morton.specs.Answers.{childOf, vertexAnswer, sideAnswer};
 ghost use Rattle.morton.specs.Field.{add, sub};
-ghost use Rattle.morton.specs.Level.{deepest, level, isCell, parentOf};
+ghost use Rattle.morton.specs.Level.{deepest, limit, level, isCell, parentOf};
 ghost use Rattle.morton.specs.Split.{splits};
 ghost use Rattle.morton.specs.Vertex.{isInner};
 ghost use Rattle.build.specs.Build.{tablesOf};
@@ -133,9 +133,9 @@ pub extern "C" fn mittenhelm_should_refine(level: u32, bound: u32, distance: f32
     morton::should_refine(level, bound, distance)
 }
 
-// A state's words are numbers of 64 bits, so a bound above 15 was refused before.
+// The state that eight words hold. Its bound fits a `u32`: one above the limit was refused before.
 fn read_state(words: &[u64]) -> State
-    requires { ⌜ (length (now words) ≡ 8) × (getD (now words) 0 0 ≤ 15) ⌝ }
+    requires { ⌜ (length (now words) ≡ 8) × (getD (now words) 0 0 ≤ limit) ⌝ }
     ensures { λ r. ⌜ r ≡ stateOf (now (words .entry)) ⌝ }
 {
     State {
