@@ -1,24 +1,20 @@
 -- What a state that fits knows, and what an accepted call stands on. Assumes nothing.
-use Prim.Native.Nat.{ℕ, _+_, _-_, _*_, _%_, _^_, _≤_, _<_}
-use mathlib.Core.Path.{_≡_, refl, _∙_, ap, subst}
+use Prim.Native.Nat.{ℕ, _+_, _-_, _*_, _^_, _≤_, _<_}
+use mathlib.Core.Path.{_≡_, refl, _∙_, subst}
 use mathlib.Core.Bool.{Bool, true, false, cond, _||_, _&&_, not}
-use mathlib.Core.List.{List}
 use native.Mathlib.Omega.{arith}
-use native.Mathlib.Decide.{decLt}
 use lib.Dec.{eqb, leb, ltb}
-use lib.ListN.{length, getD}
 use borrow.Author.Tests.{not-false, eqb-true, eqb-false, leb-true, ltb-false, le-leb, lt-leb, eq-eqb, ne-eqb}
 use lib.Ieee.{Float}
 use Rattle.morton.specs.Level.{Cell, deepest, limit, level, isCell}
 use Rattle.morton.specs.Split.{splits}
-use Rattle.morton.proofs.Levels.{eight-pos, level-le, and-true, is-cell, cell-is, cell-level, cell-lt}
-use Rattle.morton.proofs.Cells.{child-cell}
+use Rattle.morton.proofs.Levels.{level-le, and-true, is-cell, cell-is, cell-level, cell-lt}
+use Rattle.build.specs.declared.Answer.{Answer}
 use Rattle.build.specs.declared.Answer.the-variants.{Refused}
 use Rattle.build.specs.declared.Lengths.{Lengths}
 use Rattle.build.specs.declared.State.{State}
-use Rattle.build.specs.Build.{Tables, Ready, NextCell, outcome, lengthsOf, nodeRoom, finest, itemAt, items, cellTo, childrenTo, queueOf, leavesOf}
-use Rattle.build.specs.Build.{sameLengths, countsFit, idleFits, busyFits, fitsAt, fullOf, refusalAt, refusalOf, decideOf, acceptOf}
-use Rattle.build.proofs.Ring.{apart, length-children, children-other, children-at}
+use Rattle.build.specs.Build.{Tables, Ready, outcome, lengthsOf, nodeRoom, finest, cellTo, leavesOf}
+use Rattle.build.specs.Build.{sameLengths, countsFit, idleFits, busyFits, fitsAt, fullOf, refusalAt, refusalOf, storedOf, advanceOf, decideOf, acceptOf}
 
 -- ---- cell keys of bounded level
 
@@ -32,13 +28,6 @@ to-cell top L k d c h = let e = cell-level L k d c in rw (cell-is L k d c) (le-l
 
 pub cell-short : (top k : ℕ) → top ≤ limit → cellTo top k ≡ true → k < 2 ^ 61
 cell-short top k l h = let p = cell-to top k h in let q = cell-lt (level k) limit k (p .0) (omega arith) in omega arith
-
-pub root-cell : isCell 1 ≡ true
-root-cell = cell-is 0 1 (omega arith) (record { low = omega arith; high = omega arith })
-
--- 0, which says that nothing is asked, is no cell key
-pub cell-some : (top k : ℕ) → cellTo top k ≡ true → k ≡ 0 → ⊥
-cell-some top k h e = let p = cell-to top k h in let l = p .0 .low in let q = eight-pos (level k) in omega arith
 
 -- ---- the split rule, from what the test of `morton` promises
 
@@ -149,46 +138,17 @@ pub full-ring : (s : State) → fullOf s true ≡ 0 → 7 * s .nodes - 8 * s .le
 unfolding fullOf
 full-ring s h = ltb-false _ _ (cond-zero (ltb (s .lengths .queue) (7 * s .nodes - 8 * s .leaves + 8)) _ _ (omega arith) h .0)
 
--- ---- item n, after the call
-
--- the children are stored behind the items that wait, or the first of them is asked next
-split-next : (q : List ℕ) (key n m : ℕ) → m ≤ n → 8 * m ≤ 7 * n → 7 * n - 8 * m + 8 ≤ length q → Cell (level key) key → level key ≤ limit
-    → (8 * m < 7 * n → isCell (itemAt q n) ≡ true) → isCell (itemAt (childrenTo 8 q key (items n m)) n) ≡ true
-unfolding itemAt
-split-next q key n m f w r c l h = rw (length-children 8 q key (items n m)) (pick (decLt (8 * m) (7 * n)))
-  where
-    pick : Dec (8 * m < 7 * n) → isCell (getD (childrenTo 8 q key (items n m)) (n % length q) 0) ≡ true
-    pick (yes p) =
-        rw (children-other 8 q key (items n m) (n % length q) (λ w l. apart (length q) n (items n m + w) (omega arith) (omega arith))) (h p)
-    pick (no p) =
-        let e : n ≡ items n m + 0 = omega arith in
-        let at : getD (childrenTo 8 q key (items n m)) (n % length q) 0 ≡ 8 * key + 0 =
-        ap (λ (x : ℕ). getD (childrenTo 8 q key (items n m)) (x % length q) 0) e ∙ children-at 8 q key (items n m) 0 (omega arith) (omega arith) in
-        rw at (cell-is _ _ (omega arith) (child-cell (level key) key 0 c (omega arith)))
-
-next-cell : (s : State) (split : Bool) (t : Tables) (room top : ℕ) → top ≤ limit
-    → Passed s split (lengthsOf t) (itemAt (t .queue) (s .nodes)) room top → NextCell s (leavesOf s split) (queueOf s split t)
-unfolding queueOf leavesOf lengthsOf cellTo
-next-cell s true t room top h p l =
-    let c = cell-to top (s .asked) (p .state .cell) in
-    let e = p .state .lengths .queue in
-    let r = full-ring s (p .full) in
-    split-next (t .queue) (s .asked) (s .nodes) (s .leaves) (p .state .counted .few) (p .state .waiting) (omega arith) (c .0) (omega (arith, c .1))
-    (λ k. and-true _ _ (p .state .next k) .0)
-next-cell s false t room top h p l = and-true _ _ (p .state .next (omega (arith, p .state .counted .few))) .0
-
--- what is asked next, in the two ways of an accepted call
-pub ready-split : (s : State) (split : Bool) (t : Tables) (q : List ℕ) → Ready s split t → split ≡ true → q ≡ childrenTo 8 (t .queue) (s .asked) (items (s .nodes) (s .leaves))
-    → ((s .nodes < 4096) × (s .leaves ≤ s .nodes + 1)) × NextCell s (s .leaves) q
-unfolding queueOf leavesOf
-ready-split s split t q r h e = ((r .small, omega (arith, r .few)), rw (h, ← e) at (r .next))
-
-pub ready-whole : (s : State) (split : Bool) (t : Tables) → Ready s split t → split ≡ false
-    → ((s .nodes < 4096) × (s .leaves + 1 ≤ s .nodes + 1)) × NextCell s (s .leaves + 1) (t .queue)
-unfolding queueOf leavesOf
-ready-whole s split t r h = ((r .small, omega (arith, r .few)), rw h at (r .next))
-
 -- ---- the whole call
+
+pub ready-leaves : (s : State) (split : Bool) (t : Tables) (m : ℕ) → Ready s split t → m ≡ leavesOf s split → (s .nodes < 4096) × (m ≤ s .nodes + 1)
+unfolding leavesOf
+ready-leaves s true t m r e = (r .small, omega (arith, r .few))
+ready-leaves s false t m r e = (r .small, omega (arith, r .few))
+
+pub accept-is : (s : State) (split : Bool) (d : Float) (t : Tables) (m : ℕ) (a : Answer) (t' : Tables) → m ≡ leavesOf s split → t' ≡ storedOf s split d t
+    → a ≡ advanceOf s m (t' .queue) → outcome a t' ≡ acceptOf s split d t
+unfolding acceptOf storedOf
+accept-is s split d t m a t' l e f = rw (f, l, e)
 
 and-false : (a : Bool) → (a && false) ≡ false
 and-false true = refl
@@ -225,5 +185,4 @@ ready s split t h =
       key = cell-short (finest (s .bound)) (s .asked) f (p .state .cell);
       leaf-room = λ n. let l = full-leaf s (subst (λ (b : Bool). fullOf s b ≡ 0) n (p .full)) in omega (arith, k .leaf-room, e .leaves);
       ring-room = λ n. let l = full-ring s (subst (λ (b : Bool). fullOf s b ≡ 0) n (p .full)) in omega (arith, e .queue);
-      next = next-cell s split t _ (finest (s .bound)) f p;
     }

@@ -195,10 +195,6 @@ startOf bound t =
 
 -- ---- for the private steps
 
--- If item n is asked next, it is a cell key.
-abbrev pub NextCell : State → ℕ → List ℕ → Type 0
-NextCell s m queue = s .nodes < items (s .nodes + 1) m → isCell (itemAt queue (s .nodes)) ≡ true
-
 -- What an accepted call stands on.
 pub record Ready (s : State) (split : Bool) (t : Tables) : Type 0 where
   pub key-room : s .nodes < length (t .keys)
@@ -208,4 +204,3 @@ pub record Ready (s : State) (split : Bool) (t : Tables) : Type 0 where
   pub key : s .asked < 2 ^ 61
   pub leaf-room : split ≡ false → s .leaves < length (t .leaves)
   pub ring-room : split ≡ true → 8 ≤ length (t .queue)
-  pub next : NextCell s (leavesOf s split) (queueOf s split t)

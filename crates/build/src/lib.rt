@@ -1,16 +1,12 @@
 // The octree over a distance field, built one request at a time. From `build` in src/linear_hashed_octree.rs of isosurface 0.0.4: its hash
 // map and queue are tables that the host lends, and its closures are requests that the host answers.
-use morton::CentreAnswer;
 use morton::Key;
-use morton::SizeAnswer;
 ghost use mathlib.Core.Path.{_≡_};
-ghost use mathlib.Core.Bool.{true};
 ghost use Prim.Native.Nat.{_+_, _*_, _%_, _<_, _≤_, _^_, min};
 ghost use lib.ListN.{length};
-ghost use Rattle.morton.specs.Level.{isCell};
-ghost use Rattle.build.specs.Build.{tablesOf, nodeRoom, finest, itemAt, requestOf, cellTo, NextCell, Ready};
+ghost use Rattle.build.specs.Build.{tablesOf, nodeRoom, finest, itemAt, requestOf, cellTo, Ready};
 ghost use Rattle.build.specs.Build.{sameLengths, countsFit, idleFits, busyFits, fitsAt, fullOf, refusalAt, splitOf};
-ghost use Rattle.build.specs.Build.{childrenTo, advanceOf, acceptOf, distanceOf, startOf, outcome};
+ghost use Rattle.build.specs.Build.{childrenTo, leavesOf, storedOf, advanceOf, acceptOf, distanceOf, startOf, outcome};
 
 // No build has more nodes.
 const MOST_NODES: usize = 4096;
@@ -48,38 +44,16 @@ pub enum Answer {
     Refused(u32),
 }
 
-// Stands where a cell had no centre or half size, which doesn't happen.
-fn nothing() -> Request {
-    Request {
-        key: 0,
-        x: 0.0,
-        y: 0.0,
-        z: 0.0,
-        half: 0.0,
-    }
-}
-
 fn ask_for(key: u64) -> Request
-    requires { ⌜ isCell key ≡ true ⌝ }
     ensures { λ r. ⌜ r ≡ requestOf key ⌝ }
 {
-    let cell = Key { code: key };
-    let centre = cell.centre();
-    let size = cell.half_size();
-    match centre {
-        CentreAnswer::Is(p) => {
-            match size {
-                SizeAnswer::Is(half) => Request {
-                    key: key,
-                    x: p.x,
-                    y: p.y,
-                    z: p.z,
-                    half: half,
-                },
-                SizeAnswer::Refused(_) => nothing(),
-            }
-        }
-        CentreAnswer::Refused(_) => nothing(),
+    let e = Key { code: key }.extent();
+    Request {
+        key: key,
+        x: e.x,
+        y: e.y,
+        z: e.z,
+        half: e.half,
     }
 }
 
@@ -309,7 +283,7 @@ fn put_children(queue: &mut [u64], key: u64, item: usize)
 
 // The answer of an accepted call, `leaves` being how many there are now.
 fn advance(s: State, leaves: usize, queue: &[u64]) -> Answer
-    requires { ⌜ ((s .nodes < 4096) × (leaves ≤ s .nodes + 1)) × NextCell s leaves (now queue) ⌝ }
+    requires { ⌜ (s .nodes < 4096) × (leaves ≤ s .nodes + 1) ⌝ }
     ensures { λ r. ⌜ r ≡ advanceOf s leaves (now (queue .entry)) ⌝ }
 {
     let n = s.nodes;
@@ -338,7 +312,35 @@ fn advance(s: State, leaves: usize, queue: &[u64]) -> Answer
     }
 }
 
-// Stores the asked cell, as a leaf or with its children queued.
+// Stores the asked cell, as a leaf or with its children queued, and says how many leaves there are then.
+fn store(
+    s: State,
+    keys: &mut [u64],
+    distances: &mut [f32],
+    leaves: &mut [u64],
+    queue: &mut [u64],
+    distance: f32,
+    split: bool,
+) -> usize
+    requires { ⌜ Ready s split (tablesOf (now keys) (now distances) (now leaves) (now queue)) ⌝ }
+    ensures { λ r. ⌜
+        (r ≡ leavesOf s split)
+        × (tablesOf (now (keys .exit)) (now (distances .exit)) (now (leaves .exit)) (now (queue .exit))
+        ≡ storedOf s split distance (tablesOf (now (keys .entry)) (now (distances .entry)) (now (leaves .entry)) (now (queue .entry)))) ⌝ }
+{
+    let n = s.nodes;
+    let m = s.leaves;
+    let key = s.asked;
+    keys[n] = key;
+    distances[n] = distance;
+    if split {
+        put_children(queue, key, 8 * (n - m));
+        return m;
+    }
+    leaves[m] = key;
+    m + 1
+}
+
 fn accept(
     s: State,
     keys: &mut [u64],
@@ -353,17 +355,8 @@ fn accept(
         outcome r (tablesOf (now (keys .exit)) (now (distances .exit)) (now (leaves .exit)) (now (queue .exit)))
         ≡ acceptOf s split distance (tablesOf (now (keys .entry)) (now (distances .entry)) (now (leaves .entry)) (now (queue .entry))) ⌝ }
 {
-    let n = s.nodes;
-    let m = s.leaves;
-    let key = s.asked;
-    keys[n] = key;
-    distances[n] = distance;
-    if split {
-        put_children(queue, key, 8 * (n - m));
-        return advance(s, m, queue);
-    }
-    leaves[m] = key;
-    advance(s, m + 1, queue)
+    let m = store(s, keys, distances, leaves, queue, distance, split);
+    advance(s, m, queue)
 }
 
 // Takes the distance of the asked cell, and says what to ask for next.

@@ -1,7 +1,6 @@
 -- A build's answer is reply over as its case says. Assumes nothing.
 use Prim.Native.Nat.{ℕ, _≤_, _<_}
-use mathlib.Core.Path.{_≡_, refl, sym, _∙_, ap, subst}
-use mathlib.Core.Bool.{Bool, true, false, cond}
+use mathlib.Core.Path.{_≡_, refl}
 use mathlib.Core.List.{List, [], _∷_}
 use native.Mathlib.Omega.{arith}
 use lib.Ieee.{Float}
@@ -14,7 +13,7 @@ use Rattle.build.specs.declared.Answer.{Answer}
 use Rattle.build.specs.declared.Answer.the-variants.{Ask, Finished, Refused}
 use Rattle.build.specs.Build.{Tables, Outcome, outcome, startOf, splitOf, distanceOf}
 use Rattle.build.proofs.Laws.{deep-refused}
-use Rattle.mittenhelm.specs.Words.{stateOf, wordsOf, Reply, reply, handOver, startReplies, Left, left, leave, distanceLeaves}
+use Rattle.mittenhelm.specs.Words.{stateOf, wordsOf, Reply, reply, handOver, startReplies, left, leave, distanceLeaves}
 
 -- eight stores fill a slice of eight
 pub eight-words : (ws : List ℕ) (a b c d e f g h : ℕ) → length ws ≡ 8

@@ -9,7 +9,7 @@ use Rattle.morton.specs.declared.Key.{Key}
 use Rattle.morton.specs.declared.KeyAnswer.{KeyAnswer}
 use Rattle.morton.specs.declared.SizeAnswer.the-variants as size
 use Rattle.morton.specs.declared.CentreAnswer.the-variants as centre
-use Rattle.morton.specs.Answers.{childOf, vertexAnswer, sideAnswer, HalfSizeSays, OnAxis, CentreSays}
+use Rattle.morton.specs.Answers.{childOf, vertexAnswer, sideAnswer, HalfSizeSays, OnAxis, CentreSays, ExtentSays}
 use Rattle.morton.specs.Field.{coord, add, sub}
 use Rattle.morton.specs.Level.{deepest, level, isCell, parentOf}
 use Rattle.morton.specs.Split.{splits}
@@ -59,6 +59,15 @@ centre-one n (centre.Is p) (centre.Is q) u v =
 centre-one n (centre.Is p) (centre.Refused k) u v = absurd (true≢false (sym (u .0) ∙ v .0))
 centre-one n (centre.Refused k) (centre.Is p) u v = absurd (true≢false (sym (v .0) ∙ u .0))
 centre-one n (centre.Refused k) (centre.Refused l) u v = ap centre.Refused (u .1 ∙ sym (v .1))
+
+pub extent-one : (n : ℕ) → OnlyOne (ExtentSays n)
+extent-one n e f u v =
+    λ i. record {
+      x = on-one n 0 (e .x) (f .x) (u .0 .0) (v .0 .0) i;
+      y = on-one n 1 (e .y) (f .y) (u .0 .1) (v .0 .1) i;
+      z = on-one n 2 (e .z) (f .z) (u .0 .2) (v .0 .2) i;
+      half = exactly-one (e .half) (f .half) 1 (2 ^ (level n + 1)) (pow-pos (level n + 1)) (u .1) (v .1) i;
+    }
 
 pub vertex-one : (n L w : ℕ) → OnlyOne (λ (r : KeyAnswer). r ≡ vertexAnswer n L w)
 vertex-one n L w = equal (vertexAnswer n L w)

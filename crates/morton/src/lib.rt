@@ -3,7 +3,7 @@ ghost use mathlib.Core.Path.{_≡_};
 ghost use mathlib.Core.Bool.{_&&_};
 ghost use Prim.Native.Nat.{_+_, _*_, _^_, _≤_};
 ghost use lib.Dec.{leb};
-ghost use Rattle.morton.specs.Answers.{childOf, vertexAnswer, sideAnswer, HalfSizeSays, CentreSays};
+ghost use Rattle.morton.specs.Answers.{childOf, vertexAnswer, sideAnswer, HalfSizeSays, CentreSays, ExtentSays};
 ghost use Rattle.morton.specs.Exact.{Exactly};
 ghost use Rattle.morton.specs.Field.{third, add, sub};
 ghost use Rattle.morton.specs.Level.{deepest, level, isCell, parentOf};
@@ -40,6 +40,14 @@ pub struct Vec3 {
     pub x: f32,
     pub y: f32,
     pub z: f32,
+}
+
+// The middle of a cell, and how far it reaches from there on each axis.
+pub struct Extent {
+    pub x: f32,
+    pub y: f32,
+    pub z: f32,
+    pub half: f32,
 }
 
 // What a call answers, or the number of its refusal.
@@ -149,12 +157,25 @@ impl Key {
         if !self.is_cell() {
             return CentreAnswer::Refused(1);
         }
+        let e = self.extent();
+        CentreAnswer::Is(Vec3 {
+            x: e.x,
+            y: e.y,
+            z: e.z,
+        })
+    }
+
+    // Centre and half size together, of any number: of one that is no cell key, as its level and its coordinates there give them.
+    pub fn extent(self) -> Extent
+        ensures { λ r. ⌜ ExtentSays (self .code) r ⌝ }
+    {
         let level = self.level();
         let n = self.code;
         let x = centre_on(n, level);
         let y = centre_on(n >> 1, level);
         let z = centre_on(n >> 2, level);
-        CentreAnswer::Is(Vec3 { x, y, z })
+        let half = half_size_at(level);
+        Extent { x, y, z, half }
     }
 
     // Whether the number is a cell key of this level that has no coordinate 0. The leading one is taken off first, so that x is tested as

@@ -19,7 +19,7 @@ item-at-requires : tie.Need-item-at-requires
 item-at-requires c κs = search needs
 
 ask-for-requires : tie.Need-ask-for-requires
-ask-for-requires c κs = rw (c .item-at .ensures) (c .before .before .before .before .pre .1 (c .before .if1 .taken))
+ask-for-requires c κs = search needs
 
 add-t13 : tie.Need-add-t13
 add-t13 c = search needs

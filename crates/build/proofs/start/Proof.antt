@@ -1,7 +1,7 @@
 -- `start` meets its contract: it is refused, or the root is asked for. Assumes nothing.
-use Rattle.build.proofs.Laws.{root-cell}
 use Rattle.build.proofs.Walk.{called}
 use Rattle.build.specs.Build.{startOf, lengthsOf}
+use borrow.Author.Needs.{needs}
 use Rattle.build.proofs.start.Statement.{statement}
 use Rattle.build.proofs.start.Tie as tie
 
@@ -10,7 +10,7 @@ unfolding startOf
 returns c = search called
 
 ask-for-requires : tie.Need-ask-for-requires
-ask-for-requires c κs = root-cell
+ask-for-requires c κs = search needs
 
 returns-2 : tie.Need-returns-2
 unfolding startOf lengthsOf
