@@ -44,6 +44,7 @@ pub enum Answer {
     Refused(u32),
 }
 
+// The request for a cell.
 fn ask_for(key: u64) -> Request
     ensures { λ r. ⌜ r ≡ requestOf key ⌝ }
 {
@@ -91,6 +92,7 @@ fn item_at(queue: &[u64], item: usize) -> u64
     }
 }
 
+// The level of the finest grid.
 fn finest_level(bound: u32) -> u32
     ensures { λ r. ⌜ r ≡ finest bound ⌝ }
 {
@@ -103,6 +105,7 @@ fn shorter(a: usize, b: usize) -> usize
     if a <= b { a } else { b }
 }
 
+// How many nodes there is room for.
 fn node_room(z: Lengths) -> usize
     ensures { λ r. ⌜ r ≡ nodeRoom z ⌝ }
 {
@@ -120,6 +123,7 @@ fn is_cell_to(key: u64, top: u32) -> bool
     cell.level() <= top
 }
 
+// Whether the tables are as long as they were at the start.
 fn same_lengths(a: Lengths, b: Lengths) -> bool
     ensures { λ r. ⌜ r ≡ sameLengths a b ⌝ }
 {
@@ -135,6 +139,7 @@ fn same_lengths(a: Lengths, b: Lengths) -> bool
     a.queue == b.queue
 }
 
+// Whether bound and counts are within the limit and the rooms.
 fn counts_fit(s: State, z: Lengths, room: usize) -> bool
     ensures { λ r. ⌜ r ≡ countsFit s z room ⌝ }
 {
@@ -183,6 +188,7 @@ fn busy_fits(s: State, next: u64, top: u32) -> bool
     is_cell_to(next, top)
 }
 
+// Whether a state fits tables of the lengths `z`, `next` being the key at item n's place.
 fn fits_at(s: State, z: Lengths, next: u64, room: usize, top: u32) -> bool
     requires { ⌜ room ≤ 4096 ⌝ }
     ensures { λ r. ⌜ r ≡ fitsAt s z next room top ⌝ }
@@ -341,6 +347,7 @@ fn store(
     m + 1
 }
 
+// An accepted call: what it stores, and its answer.
 fn accept(
     s: State,
     keys: &mut [u64],
