@@ -4,7 +4,7 @@ use morton::Key;
 ghost use mathlib.Core.Path.{_≡_};
 ghost use Prim.Native.Nat.{_+_, _*_, _%_, _<_, _≤_, _^_, min};
 ghost use lib.ListN.{length};
-ghost use Rattle.build.specs.Build.{tablesOf, nodeRoom, finest, itemAt, requestOf, cellTo, Ready};
+ghost use Rattle.build.specs.Build.{tablesOf, lengthsOf, nodeRoom, finest, itemAt, requestOf, cellTo, Ready};
 ghost use Rattle.build.specs.Build.{sameLengths, countsFit, idleFits, busyFits, fitsAt, fullOf, refusalAt, splitOf};
 ghost use Rattle.build.specs.Build.{childrenTo, leavesOf, storedOf, advanceOf, acceptOf, distanceOf, startOf, outcome};
 
@@ -247,6 +247,17 @@ fn refusal(s: State, z: Lengths, next: u64, split: bool, room: usize, top: u32) 
     full(s, split)
 }
 
+fn lengths_of(keys: &[u64], distances: &[f32], leaves: &[u64], queue: &[u64]) -> Lengths
+    ensures { λ r. ⌜ r ≡ lengthsOf (tablesOf (now (keys .entry)) (now (distances .entry)) (now (leaves .entry)) (now (queue .entry))) ⌝ }
+{
+    Lengths {
+        keys: keys.len(),
+        distances: distances.len(),
+        leaves: leaves.len(),
+        queue: queue.len(),
+    }
+}
+
 // Begins a build over tables of these lengths: the root is asked for first.
 pub fn start(bound: u32, keys: &[u64], distances: &[f32], leaves: &[u64], queue: &[u64]) -> Answer
     ensures { λ r. ⌜ r ≡ startOf bound (tablesOf (now (keys .entry)) (now (distances .entry)) (now (leaves .entry)) (now (queue .entry))) ⌝ }
@@ -255,12 +266,7 @@ pub fn start(bound: u32, keys: &[u64], distances: &[f32], leaves: &[u64], queue:
         return Answer::Refused(5);
     }
     let root = ask_for(1);
-    let lengths = Lengths {
-        keys: keys.len(),
-        distances: distances.len(),
-        leaves: leaves.len(),
-        queue: queue.len(),
-    };
+    let lengths = lengths_of(keys, distances, leaves, queue);
     Answer::Ask(
         root,
         State {
@@ -379,12 +385,7 @@ pub fn distance(
         outcome r (tablesOf (now (keys .exit)) (now (distances .exit)) (now (leaves .exit)) (now (queue .exit)))
         ≡ distanceOf s distance (tablesOf (now (keys .entry)) (now (distances .entry)) (now (leaves .entry)) (now (queue .entry))) ⌝ }
 {
-    let z = Lengths {
-        keys: keys.len(),
-        distances: distances.len(),
-        leaves: leaves.len(),
-        queue: queue.len(),
-    };
+    let z = lengths_of(keys, distances, leaves, queue);
     let next = item_at(queue, s.nodes);
     let room = node_room(z);
     let top = finest_level(s.bound);

@@ -13,7 +13,7 @@ use Rattle.build.specs.declared.Answer.{Answer}
 use Rattle.build.specs.declared.Answer.the-variants.{Ask, Finished, Refused}
 use Rattle.build.specs.Build.{Tables, Outcome, outcome, startOf, splitOf, distanceOf}
 use Rattle.build.proofs.Laws.{deep-refused}
-use Rattle.mittenhelm.specs.Words.{stateOf, wordsOf, Reply, reply, handOver, startReplies, left, leave, distanceLeaves}
+use Rattle.mittenhelm.specs.Words.{stateOf, wordsOf, Reply, reply, handOver, startReplies, effect, effectOf, distanceEffect}
 
 -- eight stores fill a slice of eight
 pub eight-words : (ws : List ℕ) (a b c d e f g h : ℕ) → length ws ≡ 8
@@ -61,15 +61,15 @@ module _ (bound : ℕ) (t : Tables) (words : List ℕ) (q : Request) where
 -- ---- distance
 
 module _ (words : List ℕ) (d : Float) (t : Tables) (q : Request) where
-  pub distance-wordless : (length words ≡ 8 → ⊥) → left (reply 10 words q) t ≡ distanceLeaves words d t q
-  unfolding distanceLeaves
+  pub distance-wordless : (length words ≡ 8 → ⊥) → effect (reply 10 words q) t ≡ distanceEffect words d t q
+  unfolding distanceEffect
   distance-wordless n = rw (ne-eqb (length words) 8 n)
 
   pub distance-over : (o : Outcome) (h : Reply) → length words ≡ 8 → o ≡ distanceOf (stateOf words) d t → h ≡ handOver (o .answer) words q
-      → left h (o .tables) ≡ distanceLeaves words d t q
-  unfolding distanceLeaves leave
+      → effect h (o .tables) ≡ distanceEffect words d t q
+  unfolding distanceEffect effectOf
   distance-over o h l e f = rw (eq-eqb (length words) 8 l, ← e, f)
 
-  pub distance-deep : length words ≡ 8 → limit < getD words 0 0 → left (reply 10 words q) t ≡ distanceLeaves words d t q
+  pub distance-deep : length words ≡ 8 → limit < getD words 0 0 → effect (reply 10 words q) t ≡ distanceEffect words d t q
   unfolding distanceOf stateOf handOver
   distance-deep l h = distance-over (outcome (Refused 10) t) (reply 10 words q) l (deep-refused (stateOf words) (splitOf (stateOf words) d) d t h) refl

@@ -19,7 +19,7 @@ use Rattle.morton.specs.Vertex.{isInner}
 use Rattle.morton.proofs.One.{OnlyOne, equal, half-size-one as size-answer-one, centre-one as centre-answer-one}
 use Rattle.build.specs.declared.Request.{Request}
 use Rattle.build.specs.Build.{Tables}
-use Rattle.mittenhelm.specs.Words.{Reply, startReplies, Left, distanceLeaves}
+use Rattle.mittenhelm.specs.Words.{Reply, startReplies, Effect, distanceEffect}
 use Rattle.mittenhelm.specs.Boundary.{HandsKey, HandsFloat, HandsSize, Three, HandsThree, HandsCentre}
 
 -- what is returned, with what the out parameter then is
@@ -86,5 +86,5 @@ should-refine-one L bound d = equal (leb L deepest && splits L bound d)
 pub start-one : (bound : ℕ) (t : Tables) (words : List ℕ) (q : Request) → OnlyOne (λ (r : Reply). r ≡ startReplies bound t words q)
 start-one bound t words q = equal (startReplies bound t words q)
 
-pub distance-one : (words : List ℕ) (d : Float) (t : Tables) (q : Request) → OnlyOne (λ (r : Left). r ≡ distanceLeaves words d t q)
-distance-one words d t q = equal (distanceLeaves words d t q)
+pub distance-one : (words : List ℕ) (d : Float) (t : Tables) (q : Request) → OnlyOne (λ (r : Effect). r ≡ distanceEffect words d t q)
+distance-one words d t q = equal (distanceEffect words d t q)

@@ -53,19 +53,19 @@ startReplies bound t words request =
     (cond (not (eqb (length words) 8)) (reply 10 words request)
     (handOver (startOf bound t) words request))
 
--- The tables too.
-pub record Left : Type 0 where
-  pub over : Reply
+-- The same with the tables as the call leaves them.
+pub record Effect : Type 0 where
+  pub said : Reply
   pub tables : Tables
 
-abbrev pub left : Reply → Tables → Left
-left over t = record { over = over; tables = t }
+abbrev pub effect : Reply → Tables → Effect
+effect said t = record { said = said; tables = t }
 
-unfoldable pub leave : Outcome → List ℕ → Request → Left
-leave o words request = left (handOver (o .answer) words request) (o .tables)
+unfoldable pub effectOf : Outcome → List ℕ → Request → Effect
+effectOf o words request = effect (handOver (o .answer) words request) (o .tables)
 
 -- 10 too where a slice of other than eight words holds no state.
-unfoldable pub distanceLeaves : List ℕ → Float → Tables → Request → Left
-distanceLeaves words d t request =
-    cond (not (eqb (length words) 8)) (left (reply 10 words request) t)
-    (leave (distanceOf (stateOf words) d t) words request)
+unfoldable pub distanceEffect : List ℕ → Float → Tables → Request → Effect
+distanceEffect words d t request =
+    cond (not (eqb (length words) 8)) (effect (reply 10 words request) t)
+    (effectOf (distanceOf (stateOf words) d t) words request)

@@ -18,7 +18,7 @@ ghost use Rattle.morton.specs.Split.{splits};
 ghost use Rattle.morton.specs.Vertex.{isInner};
 ghost use Rattle.build.specs.Build.{tablesOf};
 ghost use Rattle.mittenhelm.specs.Boundary.{HandsKey, HandsSize, HandsCentre, three};
-ghost use Rattle.mittenhelm.specs.Words.{stateOf, wordsOf, requestAt, reply, handOver, startReplies, left, distanceLeaves};
+ghost use Rattle.mittenhelm.specs.Words.{stateOf, wordsOf, requestAt, reply, handOver, startReplies, effect, distanceEffect};
 
 // A key goes to the out parameter, a refusal's number back.
 fn hand_key(answer: KeyAnswer, out: &mut u64) -> u32
@@ -244,9 +244,9 @@ pub extern "C" fn mittenhelm_distance(
     half: &mut f32,
 ) -> u32
     ensures { λ r. ⌜
-        left (reply r (now (state .exit)) (requestAt (now (key .exit)) (now (x .exit)) (now (y .exit)) (now (z .exit)) (now (half .exit))))
+        effect (reply r (now (state .exit)) (requestAt (now (key .exit)) (now (x .exit)) (now (y .exit)) (now (z .exit)) (now (half .exit))))
         (tablesOf (now (keys .exit)) (now (distances .exit)) (now (leaves .exit)) (now (queue .exit)))
-        ≡ distanceLeaves (now (state .entry)) distance (tablesOf (now (keys .entry)) (now (distances .entry)) (now (leaves .entry)) (now (queue .entry)))
+        ≡ distanceEffect (now (state .entry)) distance (tablesOf (now (keys .entry)) (now (distances .entry)) (now (leaves .entry)) (now (queue .entry)))
         (requestAt (now (key .entry)) (now (x .entry)) (now (y .entry)) (now (z .entry)) (now (half .entry))) ⌝ }
 {
     if state.len() != 8 {

@@ -26,6 +26,8 @@ fn exactly_enough_and_one_short() {
     let mut tried = 0;
     for case in cases() {
         let needs = case.tree.needs();
+        // README's memory table: n nodes have (7n + 1) / 8 leaves, and no longer a queue is needed.
+        assert!(needs[2] == (7 * needs[0] + 1) / 8 && needs[3] <= needs[2], "{needs:?}");
         assert_eq!(case.build(needs, &mut compared, &mut seen), None);
         for (table, refusal) in [6, 6, 7, 8].into_iter().enumerate() {
             assert_eq!(case.build(short(needs, table, 1), &mut compared, &mut seen), Some(refusal));

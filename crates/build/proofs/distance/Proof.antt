@@ -1,12 +1,15 @@
 -- `distance` meets its contract: it is refused with the number, or accepted. Assumes nothing.
 use denote.Ref.{now}
 use mathlib.Core.Path.{_≡_, sym, _∙_}
-use Rattle.build.specs.Build.{tablesOf, lengthsOf, nodeRoom, refusalOf, splitOf, distanceOf}
+use Rattle.build.specs.Build.{tablesOf, nodeRoom, refusalOf, splitOf, distanceOf}
 use Rattle.build.proofs.Laws.{refused, accepted, ready}
 use native.Mathlib.Omega.{arith}
 use borrow.Author.Needs.{needs}
 use Rattle.build.proofs.distance.Statement.{statement}
 use Rattle.build.proofs.distance.Tie as tie
+
+lengths-of-requires : tie.Need-lengths-of-requires
+lengths-of-requires c κs = search needs
 
 item-at-requires : tie.Need-item-at-requires
 item-at-requires c κs = search needs
@@ -25,24 +28,17 @@ unfolding nodeRoom
 refusal-requires c κs = omega arith
 
 -- what the calls gave is what the definitions say
-split-is : (c : tie.After-is-split) → let a = c .before .before .before .before .before .before .before .before .before .args in c .is-split .result ≡ splitOf (a .s) (a .distance)
+split-is : (c : tie.After-is-split) → let a = c .before .before .before .before .before .before .before .before .before .before .before .before .before .before .args in c .is-split .result ≡ splitOf (a .s) (a .distance)
 split-is c = cc
 
 number-is : (c : tie.After-refusal)
-    → let a = c .before .before .before .before .before .before .before .before .before .before .args in
+    → let a = c .before .before .before .before .before .before .before .before .before .before .before .before .before .before .before .args in
     c .refusal .result ≡ refusalOf (a .s) (c .before .is-split .result) (tablesOf (now (a .keys)) (now (a .distances)) (now (a .leaves)) (now (a .queue)))
-unfolding refusalOf lengthsOf
+unfolding refusalOf
 number-is c = cc
 
 same-length : tie.Need-same-length
 same-length c = search needs
-
-returns : tie.Need-returns
-unfolding distanceOf
-returns c = rw (← split-is (c .before .before)) (refused _ _ _ _ _ (number-is (c .before)) (c .if1 .taken))
-
-accept-requires : tie.Need-accept-requires
-accept-requires c κs = ready _ _ _ (sym (number-is (c .before .before .before .before .before)) ∙ c .before .before .before .before .if1 .left)
 
 same-length-2 : tie.Need-same-length-2
 same-length-2 c = search needs
@@ -53,8 +49,24 @@ same-length-3 c = search needs
 same-length-4 : tie.Need-same-length-4
 same-length-4 c = search needs
 
+returns : tie.Need-returns
+unfolding distanceOf
+returns c = rw (← split-is (c .before .before)) (refused _ _ _ _ _ (number-is (c .before)) (c .if1 .taken))
+
+accept-requires : tie.Need-accept-requires
+accept-requires c κs = ready _ _ _ (sym (number-is (c .before .before .before .before .before)) ∙ c .before .before .before .before .if1 .left)
+
 same-length-5 : tie.Need-same-length-5
 same-length-5 c = search needs
+
+same-length-6 : tie.Need-same-length-6
+same-length-6 c = search needs
+
+same-length-7 : tie.Need-same-length-7
+same-length-7 c = search needs
+
+same-length-8 : tie.Need-same-length-8
+same-length-8 c = search needs
 
 returns-2 : tie.Need-returns-2
 unfolding distanceOf
@@ -64,16 +76,20 @@ pub distance-spec : {M : Type 1} → statement M
 distance-spec =
     tie.close
     (tie.spec
+    lengths-of-requires
     item-at-requires
     node-room-requires
     finest-level-requires
     is-split-requires
     refusal-requires
     same-length
-    returns
-    accept-requires
     same-length-2
     same-length-3
     same-length-4
+    returns
+    accept-requires
     same-length-5
+    same-length-6
+    same-length-7
+    same-length-8
     returns-2)

@@ -1,6 +1,7 @@
 -- `start` meets its contract: it is refused, or the root is asked for. Assumes nothing.
+use borrow.Author.Tests.{le-ltb}
 use Rattle.build.proofs.Walk.{called}
-use Rattle.build.specs.Build.{startOf, lengthsOf}
+use Rattle.build.specs.Build.{startOf}
 use borrow.Author.Needs.{needs}
 use Rattle.build.proofs.start.Statement.{statement}
 use Rattle.build.proofs.start.Tie as tie
@@ -12,9 +13,12 @@ returns c = search called
 ask-for-requires : tie.Need-ask-for-requires
 ask-for-requires c κs = search needs
 
+lengths-of-requires : tie.Need-lengths-of-requires
+lengths-of-requires c κs = search needs
+
 returns-2 : tie.Need-returns-2
-unfolding startOf lengthsOf
-returns-2 c = search called
+unfolding startOf
+returns-2 c = rw (le-ltb _ _ (c .before .before .if1 .left), c .before .ask-for .ensures, c .lengths-of .ensures)
 
 pub start-spec : {M : Type 1} → statement M
-start-spec = tie.close (tie.spec returns ask-for-requires returns-2)
+start-spec = tie.close (tie.spec returns ask-for-requires lengths-of-requires returns-2)
