@@ -69,6 +69,9 @@ extent-one n e f u v =
       half = exactly-one (e .half) (f .half) 1 (2 ^ (level n + 1)) (pow-pos (level n + 1)) (u .1) (v .1) i;
     }
 
+pub height-one : (n : ℕ) → OnlyOne (λ (r : ℕ). r ≡ coord (level n) n 2)
+height-one n = equal (coord (level n) n 2)
+
 pub vertex-one : (n L w : ℕ) → OnlyOne (λ (r : KeyAnswer). r ≡ vertexAnswer n L w)
 vertex-one n L w = equal (vertexAnswer n L w)
 
