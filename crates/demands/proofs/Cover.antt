@@ -1,7 +1,7 @@
 -- Leaves and open cells cover the finest grid, however the cells grew. Assumes nothing.
 use Prim.Native.Nat.{ℕ, zero, suc, _+_, _-_, _*_, _/_, _^_, _≤_, _<_}
 use mathlib.Core.Path.{_≡_, refl, sym, _∙_, ap}
-use mathlib.Core.Bool.{Bool, true, cond}
+use mathlib.Core.Bool.{true}
 use mathlib.Core.List.{List, [], _∷_, _++_, append-assoc}
 use native.Mathlib.Nat.{pow-suc, div-div-eq-div-mul}
 use native.Mathlib.Decide.{ℕ-discrete}
@@ -9,21 +9,19 @@ use native.Mathlib.Omega.{arith}
 use lib.Dec.{eqb}
 use borrow.Author.Tests.{eq-eqb, ne-eqb}
 use Rattle.morton.specs.Level.{deepest, level, Cell}
-use Rattle.morton.proofs.Levels.{cell-lead, cell-level}
+use Rattle.morton.proofs.Levels.{cell-lead}
 use Rattle.morton.proofs.Cells.{child-cell}
-use Rattle.demands.specs.Grid.{volume, liesIn, holders, volumes, Cells, Covers}
+use Rattle.geometry.specs.Grid.{volume, liesIn, holders, volumes, Cells, Covers}
+use Rattle.geometry.proofs.Shape.{root-cell, root-level, child-level}
+use Rattle.geometry.proofs.Cover.{count, covers-once}
 use Rattle.demands.proofs.Growth.{childrenFrom, children, Grown}
 use Rattle.demands.proofs.Growth.Grown.{root, kept, divided}
-
--- 1 for true, 0 for false
-abbrev count : Bool → ℕ
-count t = cond {A = ℕ} t 1 0
 
 -- ---- the eight children of a cell
 
 module _ (D k : ℕ) (deep : D ≤ deepest) (c : Cell (level k) k) (above : level k < D) where
-  level-child : (w : ℕ) → w < 8 → level (8 * k + w) ≡ suc (level k)
-  level-child w h = cell-level (suc (level k)) (8 * k + w) (omega arith) (child-cell (level k) k w c (omega arith))
+  level-of : (w : ℕ) → w < 8 → level (8 * k + w) ≡ suc (level k)
+  level-of w h = child-level k w c (omega arith) h
 
   -- the volume of a child, whichever it is
   part : ℕ
@@ -31,25 +29,17 @@ module _ (D k : ℕ) (deep : D ≤ deepest) (c : Cell (level k) k) (above : leve
 
   volume-part : (w : ℕ) → w < 8 → volume D (8 * k + w) ≡ part
   unfolding volume part
-  volume-part w h = rw (level-child w h)
+  volume-part w h = rw (level-of w h)
 
   volume-parts : volume D k ≡ part * 8
   unfolding volume part
   volume-parts = let e : D - level k ≡ suc (D - suc (level k)) = omega arith in rw (e, pow-suc)
 
-  volumes-from : (n w : ℕ) → w + n ≤ 8 → volumes D (childrenFrom k w n) ≡ part * n
-  unfolding childrenFrom
-  volumes-from zero w h = omega arith
-  volumes-from (suc n) w h = omega (arith, volume-part w (omega arith), volumes-from n (suc w) (omega arith))
-
-  volumes-children : volumes D (children k) ≡ volume D k
-  volumes-children = volumes-from 8 0 (omega arith) ∙ sym volume-parts
-
   cells-from : (n w : ℕ) → w + n ≤ 8 → Cells D (childrenFrom k w n)
   unfolding childrenFrom
   cells-from zero w h = tt
   cells-from (suc n) w h =
-      let e : level (8 * k + w) ≡ suc (level k) = level-child w (omega arith) in
+      let e : level (8 * k + w) ≡ suc (level k) = level-of w (omega arith) in
       ((rw e (child-cell (level k) k w c (omega arith)), omega arith), cells-from n (suc w) (omega arith))
 
   module _ (f : ℕ) where
@@ -115,12 +105,6 @@ cells-right D (x ∷ xs) ys a = cells-right D xs ys (a .1)
 
 -- ---- growth
 
-root-cell : Cell 0 1
-root-cell = record { low = omega arith; high = omega arith }
-
-root-level : level 1 ≡ 0
-root-level = cell-level 0 1 (omega arith) root-cell
-
 root-volume : (D : ℕ) → volume D 1 ≡ 8 ^ D
 unfolding volume
 root-volume D = ap (λ (n : ℕ). 8 ^ n) (omega (arith, root-level))
@@ -131,40 +115,24 @@ root-lies D f c = rw (root-volume D) (eq-eqb (f / 8 ^ D) 1 (cell-lead D f c))
 
 root-covers : (D : ℕ) → Covers D (1 ∷ [])
 root-covers D =
-    record {
-      cells = ((rw root-level root-cell, omega (arith, root-level)), tt);
-      once = λ f c. omega (arith, ap count (root-lies D f c));
-      full = omega (arith, root-volume D);
-    }
+    covers-once D (1 ∷ []) ((rw root-level root-cell, omega (arith, root-level)), tt) (λ f c. omega (arith, ap count (root-lies D f c)))
 
 -- a cell that gives way to its children
 divide : (D k : ℕ) (xs ys : List ℕ) → D ≤ deepest → level k < D → Covers D (xs ++ (k ∷ ys)) → Covers D (xs ++ (ys ++ children k))
 divide D k xs ys deep above c =
     let mine : Cells D (k ∷ ys) = cells-right D xs (k ∷ ys) (c .cells) in
-    record {
-      cells =
-          cells-append D xs (ys ++ children k) (cells-left D xs (k ∷ ys) (c .cells))
-          (cells-append D ys (children k) (mine .1) (cells-from D k deep (mine .0 .0) above 8 0 (omega arith)));
-      once =
-          λ f g.
-          omega (
-            arith,
-            c .once f g,
-            holders-append D f xs (k ∷ ys),
-            holders-append D f xs (ys ++ children k),
-            holders-append D f ys (children k),
-            holders-children D k deep (mine .0 .0) above f,
-          );
-      full =
-          omega (
-            arith,
-            c .full,
-            volumes-append D xs (k ∷ ys),
-            volumes-append D xs (ys ++ children k),
-            volumes-append D ys (children k),
-            volumes-children D k deep (mine .0 .0) above,
-          );
-    }
+    covers-once D (xs ++ (ys ++ children k))
+    (cells-append D xs (ys ++ children k) (cells-left D xs (k ∷ ys) (c .cells))
+    (cells-append D ys (children k) (mine .1) (cells-from D k deep (mine .0 .0) above 8 0 (omega arith))))
+    (λ f g.
+    omega (
+      arith,
+      c .once f g,
+      holders-append D f xs (k ∷ ys),
+      holders-append D f xs (ys ++ children k),
+      holders-append D f ys (children k),
+      holders-children D k deep (mine .0 .0) above f,
+    ))
 
 pub grown-covers : {D : ℕ} {nodes leaves pending : List ℕ} → D ≤ deepest → Grown D nodes leaves pending → Covers D (leaves ++ pending)
 grown-covers {D} deep root = root-covers D

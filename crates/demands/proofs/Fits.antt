@@ -17,7 +17,7 @@ use Rattle.build.specs.declared.State.{State}
 use Rattle.build.specs.declared.Answer.the-variants.{Ask, Finished, Refused}
 use Rattle.build.specs.Build.{Tables, outcome, lengthsOf, nodeRoom, finest, items, itemAt, cellTo, sameLengths, countsFit, idleFits, busyFits, fitsAt, fits, fullOf, refusalAt, refusalOf, splitOf, leavesOf, advanceOf, acceptOf, decideOf, distanceOf}
 use Rattle.build.proofs.Laws.{to-cell}
-use Rattle.demands.specs.Grid.{Cells, Covers}
+use Rattle.geometry.specs.Grid.{Cells, Covers}
 use Rattle.demands.specs.Run.{nodeKeys, leafKeys, itemsFrom, waiting, openCells}
 use Rattle.demands.proofs.Growth.{grown-count}
 use Rattle.demands.proofs.Cover.{cells-right, grown-covers}

@@ -8,4 +8,6 @@ pub mod Call
 pub mod Trace
 pub mod Fits
 pub mod Queue
+pub mod Soundness
 pub mod Demands
+pub mod Reading

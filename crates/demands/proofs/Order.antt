@@ -1,9 +1,11 @@
 -- Nodes and leaves ascend, however the cells grew. Assumes nothing.
 use Prim.Native.Nat.{ℕ, zero, suc, _+_, _*_, _≤_, _<_}
+use mathlib.Core.Path.{_≡_}
+use mathlib.Core.Logic.{_⊎_, inl, inr}
 use mathlib.Core.List.{List, [], _∷_, _++_}
 use native.Mathlib.Omega.{arith}
-use lib.ListN.{length, getD}
-use Rattle.demands.specs.Run.{Ascending}
+use Rattle.tree.specs.Tree.{In, Ascending}
+use Rattle.tree.proofs.Lists.{in-at, in-none, in-cases}
 use Rattle.demands.proofs.Growth.{childrenFrom, children, Grown}
 use Rattle.demands.proofs.Growth.Grown.{root, kept, divided}
 
@@ -32,17 +34,25 @@ rises-children k w zero = omega arith
 rises-children k w (suc n) =
     (omega arith, rises-widen (suc (8 * k + w)) (8 * k + suc w) (8 * k + suc w + n) (8 * k + w + suc n) (childrenFrom k (suc w) n) (omega arith) (omega arith) (rises-children k (suc w) n))
 
-rises-least : (a b : ℕ) (xs : List ℕ) → Rises a b xs → (j : ℕ) → j < length xs → a ≤ getD xs j 0
+rises-ends : (a b : ℕ) (xs : List ℕ) → Rises a b xs → a ≤ b
 unfolding Rises
-rises-least a b [] r j h = absurd (omega arith)
-rises-least a b (x ∷ xs) (l, r) zero h = l
-rises-least a b (x ∷ xs) (l, r) (suc j) h = omega (arith, rises-least (suc x) b xs r j (omega arith))
+rises-ends a b [] r = r
+rises-ends a b (x ∷ xs) (l, r) = omega (arith, rises-ends (suc x) b xs r)
+
+pub rises-in : {m : ℕ} (a b : ℕ) (xs : List ℕ) → Rises a b xs → In m xs → (a ≤ m) × (m < b)
+unfolding Rises
+rises-in a b [] r i = absurd (in-none i)
+rises-in {m} a b (x ∷ xs) (l, r) i = go (in-cases i) (rises-in {m = m} (suc x) b xs r)
+  where
+    go : (m ≡ x) ⊎ In m xs → (In m xs → (suc x ≤ m) × (m < b)) → (a ≤ m) × (m < b)
+    go (inl e) h = (omega arith, omega (arith, rises-ends (suc x) b xs r))
+    go (inr j) h = let p = h j in (omega arith, p .1)
 
 pub rises-ascend : (a b : ℕ) (xs : List ℕ) → Rises a b xs → Ascending xs
 unfolding Rises
 rises-ascend a b [] r i j h l = absurd (omega arith)
 rises-ascend a b (x ∷ xs) (_, r) i zero h l = absurd (omega arith)
-rises-ascend a b (x ∷ xs) (_, r) zero (suc j) h l = rises-least (suc x) b xs r j (omega arith)
+rises-ascend a b (x ∷ xs) (_, r) zero (suc j) h l = rises-in (suc x) b xs r (in-at xs j (omega arith)) .0
 rises-ascend a b (x ∷ xs) (_, r) (suc i) (suc j) h l = rises-ascend (suc x) b xs r i j (omega arith) (omega arith)
 
 -- The decided cells are below some number; the open ones lie from there on, below its first child.

@@ -12,7 +12,7 @@ use Rattle.morton.specs.Level.{level}
 use Rattle.morton.proofs.Levels.{eight-pos, eight-mono}
 use Rattle.build.specs.declared.State.{State}
 use Rattle.build.specs.Build.{Tables, lengthsOf, nodeRoom, fullOf, refusalOf, splitOf}
-use Rattle.demands.specs.Grid.{volume, volumes}
+use Rattle.geometry.specs.Grid.{volume, volumes}
 use Rattle.demands.specs.Run.{Run, leafKeys, waiting, openCells}
 use Rattle.demands.proofs.Growth.{Grown}
 use Rattle.demands.proofs.Growth.Grown.{root, kept, divided}

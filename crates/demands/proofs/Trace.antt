@@ -19,7 +19,7 @@ use Rattle.build.specs.declared.Answer.the-variants.{Ask, Refused}
 use Rattle.build.specs.Build.{Tables, lengthsOf, nodeRoom, finest, items, itemAt, fullOf, refusalOf, splitOf, queueOf, storedOf, leavesOf, movedOf, startOf}
 use Rattle.build.proofs.Ring.{length-children}
 use Rattle.build.proofs.Laws.{passed, full-leaf, full-ring, ready}
-use Rattle.demands.specs.Grid.{Cells}
+use Rattle.geometry.specs.Grid.{Cells}
 use Rattle.demands.specs.Run.{Run, nodeKeys, leafKeys, itemsFrom, waiting, openCells}
 use Rattle.demands.specs.Run.Run.{started, asked, finished}
 use Rattle.demands.proofs.Growth.{Grown}

@@ -8,8 +8,9 @@ use lib.Ieee.{Float}
 use Rattle.build.specs.declared.State.{State}
 use Rattle.build.specs.declared.Answer.the-variants.{Refused}
 use Rattle.build.specs.Build.{Tables, finest, nodeRoom, lengthsOf, fits, distanceOf}
-use Rattle.demands.specs.Grid.{Covers}
-use Rattle.demands.specs.Run.{Run, nodeKeys, leafKeys, waiting, openCells, Ascending}
+use Rattle.geometry.specs.Grid.{Covers}
+use Rattle.tree.specs.Tree.{Ascending}
+use Rattle.demands.specs.Run.{Run, nodeKeys, leafKeys, waiting, openCells}
 
 -- What holds after every accepted distance of a build, and at its start.
 pub record AfterEveryDistance (bound : ℕ) (lent : Tables) (given : List Float) (s : State) (t : Tables) : Type 0 where

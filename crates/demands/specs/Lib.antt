@@ -1,4 +1,4 @@
 -- What is demanded, and the words for it. Read Demands first.
-pub mod Grid
 pub mod Run
 pub mod Demands
+pub mod Reading

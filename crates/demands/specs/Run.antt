@@ -1,10 +1,10 @@
 -- A build from its start, and the cells it has at hand. Assumes nothing.
-use Prim.Native.Nat.{ℕ, zero, suc, _+_, _-_, _*_, _<_}
+use Prim.Native.Nat.{ℕ, zero, suc, _+_, _-_, _*_}
 use mathlib.Core.Path.{_≡_}
 use mathlib.Core.Bool.{cond}
 use mathlib.Core.List.{List, [], _∷_}
 use lib.Dec.{eqb}
-use lib.ListN.{length, getD, take}
+use lib.ListN.{take}
 use lib.Ieee.{Float}
 use Rattle.build.specs.declared.Request.{Request}
 use Rattle.build.specs.declared.State.{State}
@@ -39,7 +39,3 @@ waiting s t = itemsFrom (t .queue) (s .nodes) (7 * s .nodes - 8 * s .leaves)
 -- The cell asked for and those that wait; none once the build is finished.
 unfoldable pub openCells : State → Tables → List ℕ
 openCells s t = cond (eqb (s .asked) 0) [] (s .asked ∷ waiting s t)
-
--- Strictly ascending.
-abbrev pub Ascending : List ℕ → Type 0
-Ascending ks = (i j : ℕ) → i < j → j < length ks → getD ks i 0 < getD ks j 0

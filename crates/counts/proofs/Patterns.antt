@@ -1,0 +1,24 @@
+-- Which float a bit pattern is. Assumes nothing.
+use Prim.Native.Nat.{ℕ, _%_, _^_, _≤_, _<_}
+use mathlib.Core.Path.{_≡_, refl, sym, _∙_, subst}
+use mathlib.Core.Bool.{Bool, true, not, false≢true}
+use lib.Dec.{T}
+use lib.Ieee.{Float, nan, inf, fin, binary32, div, ofBits, isNan, nanBits}
+use lib.Ieee.Bits.{nanBits-is, nanBits-above}
+use borrow.Author.Tests.{lt-ltb, le-ltb}
+
+pub zero-over-zero : div binary32 (ofBits binary32 0) (ofBits binary32 0) ≡ nan
+unfolding div ofBits
+zero-over-zero = refl
+
+is-nan : (x : Float) → isNan x ≡ true → x ≡ nan
+unfolding isNan
+is-nan nan e = refl
+is-nan (inf s) e = absurd (false≢true e)
+is-nan (fin s m k) e = absurd (false≢true e)
+
+pub above-is-nan : (n : ℕ) → 0x7f80_0000 < n % 2 ^ 31 → ofBits binary32 n ≡ nan
+above-is-nan n h = is-nan (ofBits binary32 n) (sym (nanBits-is binary32 n) ∙ nanBits-above binary32 n ∙ lt-ltb 0x7f80_0000 (n % 2 ^ 31) h)
+
+pub below-no-nan : (n : ℕ) → n % 2 ^ 31 ≤ 0x7f80_0000 → T (not (nanBits binary32 n))
+below-no-nan n h = subst (λ (b : Bool). T (not b)) (sym (nanBits-above binary32 n ∙ le-ltb 0x7f80_0000 (n % 2 ^ 31) h)) tt

@@ -1,0 +1,193 @@
+-- The user's demand 3 on finished builds: specs/Reading.antt, proved. Assumes nothing.
+use Prim.Native.Nat.{ℕ, zero, suc, _+_, _-_, _/_, _^_, _≤_, _<_}
+use mathlib.Core.Path.{_≡_, refl, sym, _∙_, ap, ap₂, subst}
+use mathlib.Core.Bool.{true}
+use mathlib.Core.List.{List, [], _∷_}
+use native.Mathlib.Omega.{arith}
+use lib.Ieee.{Float, nan}
+use lib.ListN.{length, getD}
+use Rattle.morton.specs.Level.{deepest, level, Cell}
+use Rattle.morton.specs.Vertex.{isInner, sideOf}
+use Rattle.morton.proofs.Levels.{cell-level}
+use Rattle.tree.specs.Tree.{Tree, In, Sound}
+use Rattle.tree.specs.Climb.{ancestor, Deepest, triedIn}
+use Rattle.geometry.specs.Grid.{liesIn, Covers}
+use Rattle.geometry.specs.Corner.{StrictlyInside}
+use Rattle.geometry.specs.Listing.{Listed}
+use Rattle.tree.proofs.Lists.{in-cast, ascending-place}
+use Rattle.geometry.proofs.Place.{OnGrid, side, side-cell, side-on-grid, corner-grid, grid-below, inner-level}
+use Rattle.geometry.proofs.Vertex.{corner-vertex}
+use Rattle.geometry.proofs.Shape.{Shape, sound-shape-to}
+use Rattle.geometry.proofs.Lookup.{root-leaf, found-leaf}
+use Rattle.geometry.proofs.Cover.{shape-covers}
+use Rattle.geometry.proofs.Around.{Entry, entry}
+use Rattle.geometry.proofs.Listing.{giver, listed-strict, listed-corner, listed-deepest}
+use Rattle.build.specs.Build.{finest}
+use Rattle.dual.specs.Dual.{sum, DualCell, keyIn, distanceIn, climbAt, Around}
+use Rattle.dual.proofs.Filling.{around-dual}
+use Rattle.demands.specs.Reading.{Once, LeafCorner, ListsCorners, HoldsAlone, Reading, OfSoundTrees, treeAfter, OfFinishedBuilds}
+use Rattle.demands.proofs.Soundness.{finished-sound, leaves-within, finest-within}
+
+-- ---- the list
+
+module _ (leaves vs ls : List ℕ) (shallow : (k : ℕ) → In k leaves → level k ≤ 20) (s : Listed leaves vs ls) where
+  gives : (v L : ℕ) (c : LeafCorner leaves v L) → In v vs
+  gives v L c =
+      let e = corner-vertex (level (c .leaf)) (c .leaf) (c .which) v (shallow (c .leaf) (c .is-leaf)) (c .corner) (c .inside) in
+      in-cast (sym e) (s .whole (c .leaf) (c .which) (c .is-leaf) (c .is-corner) (omega (arith, e, c .inside .point .low)))
+
+  once : (v L : ℕ) → LeafCorner leaves v L → Once v vs
+  once v L c =
+      let m : In v vs = gives v L c in
+      record {
+        place = m .place;
+        stands = record { inside = m .inside; here = m .here };
+        only = λ i a. ascending-place vs (s .ascending) i (m .place) (a .inside) (m .inside) (a .here ∙ sym (m .here));
+      }
+
+  leaf's-at : (i : ℕ) → i < length vs → LeafCorner leaves (getD vs i 0) (getD ls i 0)
+  leaf's-at i l =
+      let g = giver leaves vs ls shallow s i l in
+      record {
+        leaf = g .leaf;
+        which = g .corner;
+        is-leaf = g .is-leaf;
+        is-corner = g .is-corner;
+        corner = listed-corner leaves vs ls shallow s i l;
+        at-level = g .at-level;
+        inside = listed-strict leaves vs ls shallow s i l;
+      }
+
+  deepest-at : (i L : ℕ) → i < length vs → LeafCorner leaves (getD vs i 0) L → L ≤ getD ls i 0
+  deepest-at i L l c =
+      let e = corner-vertex (level (c .leaf)) (c .leaf) (c .which) (getD vs i 0) (shallow (c .leaf) (c .is-leaf)) (c .corner) (c .inside) in
+      omega (arith, c .at-level, s .greatest i (c .leaf) (c .which) l (c .is-leaf) (c .is-corner) e)
+
+  lists-corners : ListsCorners leaves vs ls
+  lists-corners =
+      record {
+        once = once;
+        at-a-leaf's = λ i v a. subst (λ (n : ℕ). LeafCorner leaves n (getD ls i 0)) (a .here) (leaf's-at i (a .inside));
+        at-the-deepest = λ i v L a c. deepest-at i L (a .inside) (subst (λ (n : ℕ). LeafCorner leaves n L) (sym (a .here)) c);
+        ascends = s .ascending;
+      }
+
+-- ---- the dual cell of a listed vertex
+
+module _ (D : ℕ) (t : Tree) (deep : D ≤ deepest) (s : Shape D (t .keys) (t .leaves)) (L v i : ℕ) (low : L ≤ D) (hi : i < 8)
+    (inner : StrictlyInside v) (grid : OnGrid L v) (some : (p : ℕ) × In p (t .keys) × (level p ≡ L)) where
+  -- no leaf is the root
+  not-root : (k : ℕ) → In k (t .leaves) → 1 ≤ level k
+  not-root k leaf = go (level k) refl (s .cells k (s .here k leaf) .0)
+    where
+      go : (l : ℕ) → level k ≡ l → Cell l k → 1 ≤ level k
+      go zero e c =
+          let o : k ≡ 1 = omega (arith, c .low, c .high) in
+          let q : some .0 ≡ 1 = root-leaf D (t .keys) (t .leaves) s (some .0) (in-cast (sym o) leaf) (some .1) in
+          absurd (omega (arith, inner-level L v inner grid, some .2, ap level q, ap level o))
+      go (suc l) e c = omega arith
+
+  holds-alone : Entry D L v i (t .leaves) → {key : ℕ} {distance : Float} {tried : ℕ} → Deepest t (sideOf L v i) key distance tried
+      → HoldsAlone D t (sideOf D v i) key distance
+  holds-alone n {key} {distance} d =
+      let k : ℕ = n .leaf .cell in
+      let at : sideOf L v i ≡ side L v i = side-on-grid L v i (omega arith) hi inner grid in
+      let fine : sideOf D v i ≡ side D v i = side-on-grid D v i deep hi inner (grid-below L D v low deep grid) in
+      let l : level (sideOf L v i) ≡ L = ap level at ∙ cell-level L (side L v i) (omega arith) (side-cell L v i) in
+      let up : ancestor (sideOf L v i) (level k) ≡ k = ap₂ (λ (f m : ℕ). f / 8 ^ (m - level k)) at l ∙ n .above in
+      let e : key ≡ k = found-leaf D t s k (n .leaf .member) (sideOf L v i) (not-root k (n .leaf .member)) (omega (arith, n .shallow)) up d in
+      record {
+        leaf = in-cast e (n .leaf .member);
+        holds = ap₂ (liesIn D) fine e ∙ n .leaf .holds;
+        only = λ j m h. n .leaf .only j m (ap (λ (f : ℕ). liesIn D f j) (sym fine) ∙ h) ∙ sym e;
+        place = d .place;
+        stands = d .present;
+        its-distance = d .its-distance;
+      }
+
+-- ---- the dual cell of any inner vertex
+
+-- n places, filled with f from i on
+places : {A : Type 0} → (ℕ → A) → ℕ → ℕ → List A
+places f i zero = []
+places f i (suc n) = f i ∷ places f (suc i) n
+
+length-places : {A : Type 0} (f : ℕ → A) (i n : ℕ) → length (places f i n) ≡ n
+unfolding places
+length-places f i zero = refl
+length-places f i (suc n) = ap suc (length-places f (suc i) n)
+
+place-at : {A : Type 0} (f : ℕ → A) (none : A) (i n j : ℕ) → j < n → getD (places f i n) j none ≡ f (i + j)
+unfolding places
+place-at f none i zero j h = absurd (omega arith)
+place-at f none i (suc n) zero h = ap f (omega arith)
+place-at f none i (suc n) (suc j) h = place-at f none (suc i) n j (omega arith) ∙ ap f (omega arith)
+
+-- what the climbs find
+module _ (ks : List ℕ) (ds : List Float) (q : ℕ) where
+  found-keys : List ℕ
+  found-keys = places (λ i. keyIn (climbAt ks ds q i)) 0 8
+
+  found-distances : List Float
+  found-distances = places (λ i. distanceIn (climbAt ks ds q i)) 0 8
+
+  found-around : Around ks ds q found-keys found-distances (sum (λ i. triedIn (climbAt ks ds q i)) 8)
+  unfolding found-keys found-distances
+  found-around =
+      record {
+        eight-keys = length-places (λ i. keyIn (climbAt ks ds q i)) 0 8;
+        eight-distances = length-places (λ i. distanceIn (climbAt ks ds q i)) 0 8;
+        key = λ i h. place-at (λ i. keyIn (climbAt ks ds q i)) 0 0 8 i h ∙ ap (λ (j : ℕ). keyIn (climbAt ks ds q j)) (omega arith);
+        distance = λ i h. place-at (λ i. distanceIn (climbAt ks ds q i)) nan 0 8 i h ∙ ap (λ (j : ℕ). distanceIn (climbAt ks ds q j)) (omega arith);
+        count = refl;
+      }
+
+-- ---- all of it
+
+module _ (t : Tree) (sound : Sound t) (D : ℕ) (deep : D ≤ deepest) (leaf : (k : ℕ) → In k (t .leaves) → level k ≤ D) where
+  s : Shape D (t .keys) (t .leaves)
+  s = sound-shape-to D t sound leaf
+
+  shallow : (k : ℕ) → In k (t .leaves) → level k ≤ 20
+  shallow k m = omega (arith, sound .cells k (sound .leaves-childless k m .0) .1)
+
+  leaves-cover : Covers D (t .leaves)
+  leaves-cover = shape-covers D (t .keys) (t .leaves) deep s
+
+  dual-read : (vs ls : List ℕ) → Listed (t .leaves) vs ls → (j : ℕ) → j < length vs
+      → (keys : List ℕ) (distances : List Float) (tried : ℕ) → DualCell t (getD ls j 0) (getD vs j 0) keys distances tried
+      → (i : ℕ) → i < 8 → HoldsAlone D t (sideOf D (getD vs j 0) i) (getD keys i 0) (getD distances i nan)
+  dual-read vs ls list j l keys distances tried c i h =
+      let v : ℕ = getD vs j 0 in
+      let L : ℕ = getD ls j 0 in
+      let g = giver (t .leaves) vs ls shallow list j l in
+      let node : In (g .leaf) (t .keys) = s .here (g .leaf) (g .is-leaf) in
+      let low : L ≤ D = omega (arith, g .at-level, s .cells (g .leaf) node .1) in
+      let inner : StrictlyInside v = listed-strict (t .leaves) vs ls shallow list j l in
+      let grid : OnGrid L v =
+      subst (λ (n : ℕ). OnGrid n v) (g .at-level) (corner-grid (level (g .leaf)) (g .leaf) (g .corner) v (listed-corner (t .leaves) vs ls shallow list j l)) in
+      holds-alone D t deep s L v i low h inner grid (g .leaf, node, g .at-level)
+      (entry D L v i (t .leaves) deep low h leaves-cover inner grid (listed-deepest (t .leaves) vs ls shallow list j l)) (c .entry i h)
+
+  found-cell : 1 < length (t .keys) → (v L : ℕ) → v < 2 ^ 64 → isInner L v ≡ true
+      → (keys : List ℕ) × (distances : List Float) × (tried : ℕ) × DualCell t L v keys distances tried
+  found-cell more v L small e =
+      let q : ℕ = v / 8 ^ (deepest - L) in
+      (_, _, _, around-dual t sound L v small e more _ _ _ (found-around (t .keys) (t .distances) (v / 8 ^ (deepest - L))))
+
+  reading : Reading D t
+  reading =
+      record {
+        covers = leaves-cover;
+        list = λ vs ls list. lists-corners (t .leaves) vs ls shallow list;
+        dual = dual-read;
+        found = found-cell;
+      }
+
+pub of-sound-trees : OfSoundTrees
+of-sound-trees = reading
+
+pub of-finished-builds : OfFinishedBuilds
+of-finished-builds bound lent given s t run done =
+    let sound = finished-sound bound lent given s t run done in
+    (sound, of-sound-trees (treeAfter s t) sound (finest bound) (finest-within bound lent given s t run done) (leaves-within bound lent given s t run done))

@@ -1,0 +1,92 @@
+-- What a dual cell is, and what the call answers. Assumes nothing.
+use Prim.Native.Nat.{ℕ, zero, suc, _+_, _-_, _<_}
+use mathlib.Core.Path.{_≡_}
+use mathlib.Core.Bool.{true, false}
+use mathlib.Core.Logic.{_⊎_}
+use mathlib.Core.List.{List}
+use lib.Ieee.{Float, nan, ofBits, binary32}
+use lib.ListN.{length, getD, replicate}
+use Rattle.morton.specs.Field.{sub}
+use Rattle.morton.specs.Level.{level}
+use Rattle.morton.specs.Vertex.{isInner, sideOf}
+use Rattle.tree.specs.Tree.{Tree, Sound}
+use Rattle.tree.specs.declared.Lookup.{Lookup}
+use Rattle.tree.specs.declared.Lookup.the-variants as lookup
+use Rattle.tree.specs.declared.Lookup.the-variants.{Found, Nothing}
+use Rattle.tree.specs.Climb.{Deepest, climbOf, triedIn}
+use Rattle.dual.specs.declared.Tried.{Tried}
+use Rattle.dual.specs.declared.Tried.the-variants.{Keys, Refused}
+
+-- The sum of f 0, f 1, .., f (n - 1).
+unfoldable pub sum : (ℕ → ℕ) → ℕ → ℕ
+sum f zero = 0
+sum f (suc n) = sum f n + f n
+
+-- How many keys are tried from level L to one that is found.
+abbrev pub triedTo : ℕ → ℕ → ℕ
+triedTo L k = L - level k + 1
+
+-- Dual cell of a vertex and level: eight keys and eight distances in corner order, entry i being the deepest ancestor of side i, and the sum of keys
+-- tried.
+pub record DualCell (t : Tree) (L v : ℕ) (keys : List ℕ) (distances : List Float) (tried : ℕ) : Type 0 where
+  pub eight-keys : length keys ≡ 8
+  pub eight-distances : length distances ≡ 8
+  pub entry : (i : ℕ) → i < 8 → Deepest t (sideOf L v i) (getD keys i 0) (getD distances i nan) (triedTo L (getD keys i 0))
+  pub count : tried ≡ sum (λ i. triedTo L (getD keys i 0)) 8
+
+-- Nothing is in the arrays of a refused call.
+abbrev pub noKeys : List ℕ
+noKeys = replicate 8 0
+
+abbrev pub noDistances : List Float
+noDistances = replicate 8 (ofBits binary32 0)
+
+-- It isn't an inner vertex at that level, or the tree is the root alone.
+abbrev pub NoCell : Tree → ℕ → ℕ → Type 0
+NoCell t L v = (isInner L v ≡ false) ⊎ (length (t .keys) ≡ 1)
+
+-- Refusals 11, 4.
+abbrev pub DualSays : Tree → ℕ → ℕ → List ℕ → List Float → Tried → Type 0
+DualSays t L v keys distances (Keys n) = Sound t × (isInner L v ≡ true) × (1 < length (t .keys)) × DualCell t L v keys distances n
+DualSays t L v keys distances (Refused k) =
+    (keys ≡ noKeys) × (distances ≡ noDistances) × (((Sound t → ⊥) × (k ≡ 11)) ⊎ (Sound t × NoCell t L v × (k ≡ 4)))
+
+-- ---- the same on any tables at all, where no tree need be sound
+
+-- What a lookup's answer gives for an entry; nothing gives 0 and 0.
+abbrev pub keyIn : Lookup → ℕ
+keyIn (Found key distance tried) = key
+keyIn (Nothing tried) = 0
+keyIn (lookup.Refused n) = 0
+
+abbrev pub distanceIn : Lookup → Float
+distanceIn (Found key distance tried) = distance
+distanceIn (Nothing tried) = ofBits binary32 0
+distanceIn (lookup.Refused n) = ofBits binary32 0
+
+-- The lookup for side i of a vertex that is q at its level.
+abbrev pub climbAt : List ℕ → List Float → ℕ → ℕ → Lookup
+climbAt ks ds q i = climbOf ks ds (sub q i)
+
+pub record Around (ks : List ℕ) (ds : List Float) (q : ℕ) (keys : List ℕ) (distances : List Float) (tried : ℕ) : Type 0 where
+  pub eight-keys : length keys ≡ 8
+  pub eight-distances : length distances ≡ 8
+  pub key : (i : ℕ) → i < 8 → getD keys i 0 ≡ keyIn (climbAt ks ds q i)
+  pub distance : (i : ℕ) → i < 8 → getD distances i nan ≡ distanceIn (climbAt ks ds q i)
+  pub count : tried ≡ sum (λ i. triedIn (climbAt ks ds q i)) 8
+
+abbrev pub AroundSays : List ℕ → List Float → ℕ → List ℕ → List Float → Tried → Type 0
+AroundSays ks ds q keys distances (Keys n) = Around ks ds q keys distances n
+AroundSays ks ds q keys distances (Refused k) = ⊥
+
+-- One entry.
+pub record EntrySays (answer : Lookup) (key : ℕ) (distance : Float) (tried : ℕ) : Type 0 where
+  pub its-key : key ≡ keyIn answer
+  pub its-distance : distance ≡ distanceIn answer
+  pub its-tried : tried ≡ triedIn answer
+
+-- What a refused call hands back.
+pub record RefusedSays (number : ℕ) (keys : List ℕ) (distances : List Float) (tried : Tried) : Type 0 where
+  pub no-keys : keys ≡ noKeys
+  pub no-distances : distances ≡ noDistances
+  pub is : tried ≡ Refused number
