@@ -27,13 +27,15 @@ enum mittenhelm_refusal {
     MITTENHELM_NOT_A_CELL = 1,    /* not a cell key */
     MITTENHELM_ABOVE_SEVEN = 2,   /* child, corner or side above 7 */
     MITTENHELM_WRONG_LEVEL = 3,   /* child of level 21; or the level given isn't the key's own */
-    MITTENHELM_NOT_A_VERTEX = 4,  /* not an inner vertex at that level */
-    MITTENHELM_ABOVE_FIFTEEN = 5, /* bound above 15 */
+    MITTENHELM_NOT_A_VERTEX = 4,  /* not an inner vertex at that level; or, where a tree is given, it is the root alone */
+    MITTENHELM_ABOVE_FIFTEEN = 5, /* bound or slab exponent above 15 */
     MITTENHELM_NODES_FULL = 6,    /* no room for another node */
     MITTENHELM_LEAVES_FULL = 7,   /* unsplit, and no room for another leaf */
     MITTENHELM_QUEUE_FULL = 8,    /* split, and no room in the queue for eight children */
     MITTENHELM_NOTHING_ASKED = 9, /* the build is finished */
-    MITTENHELM_NOT_FITTING = 10   /* the state doesn't fit the tables */
+    MITTENHELM_NOT_FITTING = 10,  /* the state doesn't fit the tables */
+    MITTENHELM_NOT_SOUND = 11,    /* not a sound tree */
+    MITTENHELM_LIST_FULL = 12     /* start place past the end of either table, or fewer places left than vertices */
 };
 
 /* The level of any number: 0 for 0, else the largest L with 8^L at most the number. */
@@ -106,6 +108,42 @@ uint32_t mittenhelm_distance(uint64_t *state, size_t state_length,
     uint64_t *leaves, size_t leaves_length, uint64_t *queue, size_t queue_length,
     float distance,
     uint64_t *key, float *x, float *y, float *z, float *half);
+
+/* A finished tree is read from three tables that the caller owns and that no call changes: its keys, as many distances, and its
+ * leaves, each exactly as long as the tree. Of a finished build with n nodes and m leaves these are the first n keys, the first n
+ * distances and the first m leaves. A tree from elsewhere may have more than 4,096 nodes, and is read if it is sound: as many
+ * keys as distances; keys strictly ascending, first 1, all cell keys of level at most 15; each other key's parent present;
+ * each key with all eight children or none; the leaves being exactly the keys with none, ascending. */
+
+/* Whether the tables hold a sound tree. */
+bool mittenhelm_sound(
+    const uint64_t *keys, size_t keys_length, const float *distances, size_t distances_length,
+    const uint64_t *leaves, size_t leaves_length);
+
+/* Finds the deepest present of a cell key and its ancestors of level 1 or more, with its distance, and says how many keys were
+ * tried; where none is present, the key found is 0 and the distance's place stays as it was. Refusals 11, 1. */
+uint32_t mittenhelm_look_up(
+    const uint64_t *keys, size_t keys_length, const float *distances, size_t distances_length,
+    const uint64_t *leaves, size_t leaves_length,
+    uint64_t key, uint64_t *found, float *distance, uint32_t *tried);
+
+/* Writes the tree's vertices, ascending and each with its level, from place `start` on into two tables that the caller owns, and
+ * their number to `count`; a start equal to a table's length isn't past its end. Refusals 11, 12. */
+uint32_t mittenhelm_list(
+    const uint64_t *keys, size_t keys_length, const float *distances, size_t distances_length,
+    const uint64_t *leaves, size_t leaves_length,
+    size_t start, uint64_t *vertices, size_t vertices_length, uint8_t *levels, size_t levels_length, size_t *count);
+
+/* Looks up the cells of the level on the eight sides of an inner vertex: writes eight keys and eight distances, in corner order,
+ * to places that the caller owns, and the number of keys tried for all eight. Refusals 11, 4. */
+uint32_t mittenhelm_dual_cell(
+    const uint64_t *keys, size_t keys_length, const float *distances, size_t distances_length,
+    const uint64_t *leaves, size_t leaves_length,
+    uint64_t vertex, uint32_t level, uint64_t *cell_keys /* [8] */, float *cell_distances /* [8] */, uint32_t *tried);
+
+/* The slab in which the dual cell of an inner vertex at a level lies, of 2^exponent slabs (0 to 15) along z: that of its vertex.
+ * Refusals 4, 5. */
+uint32_t mittenhelm_slab(uint64_t vertex, uint32_t level, uint32_t exponent, uint32_t *slab);
 
 #ifdef __cplusplus
 }

@@ -1,3 +1,4 @@
 -- What the contracts of `mittenhelm` cite.
 pub mod Boundary
 pub mod Words
+pub mod Reading

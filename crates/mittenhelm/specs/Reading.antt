@@ -1,0 +1,66 @@
+-- How what is read from a tree is handed to a host. Assumes nothing.
+use Prim.Native.Nat.{ℕ}
+use mathlib.Core.Path.{_≡_}
+use mathlib.Core.List.{List}
+use lib.Ieee.{Float}
+use Rattle.tree.specs.declared.Lookup.{Lookup}
+use Rattle.tree.specs.declared.Lookup.the-variants as lookup
+use Rattle.tree.specs.Tree.{Tree}
+use Rattle.tree.specs.Climb.{LookupSays}
+use Rattle.dual.specs.declared.Dual.{Dual}
+use Rattle.dual.specs.declared.Tried.{Tried}
+use Rattle.dual.specs.declared.Tried.the-variants as tried
+use Rattle.dual.specs.declared.ListAnswer.{ListAnswer}
+use Rattle.dual.specs.declared.ListAnswer.the-variants as list
+use Rattle.dual.specs.declared.SlabAnswer.{SlabAnswer}
+use Rattle.dual.specs.declared.SlabAnswer.the-variants as slab
+use Rattle.dual.specs.Dual.{DualSays}
+use Rattle.dual.specs.Listing.{Lists, ListSays}
+
+-- The three places of a lookup.
+pub record Found : Type 0 where
+  pub key : ℕ
+  pub distance : Float
+  pub tried : ℕ
+
+abbrev pub foundAt : ℕ → Float → ℕ → Found
+foundAt key distance tried = record { key = key; distance = distance; tried = tried }
+
+-- Nothing is handed over as the key 0, which is no cell key, and leaves the distance.
+abbrev pub HandsFound : Lookup → Found → ℕ → Found → Type 0
+HandsFound (lookup.Found k d n) was r out = (r ≡ 0) × (out ≡ foundAt k d n)
+HandsFound (lookup.Nothing n) was r out = (r ≡ 0) × (out ≡ foundAt 0 (was .distance) n)
+HandsFound (lookup.Refused k) was r out = (r ≡ k) × (out ≡ was)
+
+-- The answer is the one that `look_up` promises.
+abbrev pub HandsLookup : Tree → ℕ → Found → ℕ → Found → Type 0
+HandsLookup t key was r out = (a : Lookup) × LookupSays t key a × HandsFound a was r out
+
+-- The two arrays of a dual cell, and how many keys were tried.
+pub record Eight : Type 0 where
+  pub keys : List ℕ
+  pub distances : List Float
+  pub tried : ℕ
+
+abbrev pub eightAt : List ℕ → List Float → ℕ → Eight
+eightAt keys distances tried = record { keys = keys; distances = distances; tried = tried }
+
+abbrev pub HandsEight : List ℕ → List Float → Tried → Eight → ℕ → Eight → Type 0
+HandsEight keys distances (tried.Keys n) was r out = (r ≡ 0) × (out ≡ eightAt keys distances n)
+HandsEight keys distances (tried.Refused k) was r out = (r ≡ k) × (out ≡ was)
+
+-- The answer is the one that `dual_cell` promises.
+abbrev pub HandsDual : Tree → ℕ → ℕ → Eight → ℕ → Eight → Type 0
+HandsDual t L v was r out = (a : Dual) × DualSays t L v (a .keys) (a .distances) (a .tried) × HandsEight (a .keys) (a .distances) (a .tried) was r out
+
+abbrev pub HandsCount : ListAnswer → ℕ → ℕ → ℕ → Type 0
+HandsCount (list.Count n) was r out = (r ≡ 0) × (out ≡ n)
+HandsCount (list.Refused k) was r out = (r ≡ k) × (out ≡ was)
+
+-- The answer, with the tables that it leaves, is the one that `list` promises.
+abbrev pub HandsList : Tree → ℕ → Lists → Lists → ℕ → ℕ → ℕ → Type 0
+HandsList t start before after was r out = (a : ListAnswer) × ListSays t start before after a × HandsCount a was r out
+
+abbrev pub HandsSlab : SlabAnswer → ℕ → ℕ → ℕ → Type 0
+HandsSlab (slab.Is n) was r out = (r ≡ 0) × (out ≡ n)
+HandsSlab (slab.Refused k) was r out = (r ≡ k) × (out ≡ was)
