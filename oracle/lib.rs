@@ -56,28 +56,37 @@ mod source {
     }
 }
 
-// Triangles stay behind: what makes them has to compile, and is never called.
+// Triangles stay behind. What would make them from the eight nodes of a dual cell hands out those eight instead: the distances are
+// kept, and each of the first eight edges goes from a node to itself, so that the point on it is the node's centre.
 
 #[cfg(published_text)]
 mod marching_cubes_impl {
     use math::Vec3;
+    use std::cell::RefCell;
+
+    thread_local! {
+        /// The distances of each dual cell since they were last taken, in the order of the marching cubes tables.
+        pub static CELLS: RefCell<Vec<[f32; 8]>> = RefCell::new(Vec::new());
+    }
 
     pub fn get_offset(_: f32, _: f32) -> f32 {
-        unreachable!()
+        0.0
     }
 
-    pub fn interpolate(_: Vec3, _: Vec3, _: f32) -> Vec3 {
-        unreachable!()
+    pub fn interpolate(from: Vec3, _: Vec3, _: f32) -> Vec3 {
+        from
     }
 
-    pub fn march_cube<E: FnMut(usize)>(_: &[f32; 8], _: E) {
-        unreachable!()
+    pub fn march_cube<E: FnMut(usize)>(distances: &[f32; 8], mut edge: E) {
+        CELLS.with(|cells| cells.borrow_mut().push(*distances));
+        (0..8).for_each(|node| edge(node));
     }
 }
 
 #[cfg(published_text)]
 mod marching_cubes_tables {
-    pub const EDGE_CONNECTION: [[usize; 2]; 12] = [[0; 2]; 12];
+    pub const EDGE_CONNECTION: [[usize; 2]; 12] =
+        [[0; 2], [1; 2], [2; 2], [3; 2], [4; 2], [5; 2], [6; 2], [7; 2], [0; 2], [0; 2], [0; 2], [0; 2]];
 }
 
 #[cfg(published_text)]
@@ -106,9 +115,35 @@ mod linear_hashed_octree {
 mod linear_hashed_marching_cubes {
     include!(concat!(env!("OUT_DIR"), "/linear_hashed_marching_cubes.rs"));
 
-    /// The text's own way to its octree is private, and goes on to triangles where it isn't.
+    use marching_cubes_impl::CELLS;
+
+    // The text's own ways to what follows are private, and go on to triangles where they aren't.
+
     pub fn octree<S: Source>(max_depth: usize, source: &S) -> LinearHashedOctree<f32> {
         LinearHashedMarchingCubes::new(max_depth).build_octree(source)
+    }
+
+    pub fn primal_vertices(octree: &LinearHashedOctree<f32>) -> HashMap<Morton, usize> {
+        LinearHashedMarchingCubes::new(0).compute_primal_vertices(octree)
+    }
+
+    /// For each vertex with a level, the distances and the centres of the eight nodes that the text finds, in corner order.
+    pub fn dual_cells(octree: &LinearHashedOctree<f32>, vertices: HashMap<Morton, usize>) -> HashMap<Morton, [(f32, Vec3); 8]> {
+        // A map has one order as long as it isn't changed.
+        let order: Vec<Morton> = vertices.keys().cloned().collect();
+        let (mut indices, mut count, mut centres) = (Vec::new(), 0, Vec::new());
+        CELLS.with(|cells| cells.borrow_mut().clear());
+        LinearHashedMarchingCubes::new(0).extract_surface(octree, vertices, &mut indices, &mut count, |at| centres.push(at));
+        let cells = CELLS.with(|cells| cells.borrow_mut().split_off(0));
+        assert_eq!((cells.len(), indices.len(), centres.len()), (order.len(), 8 * order.len(), count as usize));
+        let in_corner_order = |(distances, indices): (&[f32; 8], &[u32])| {
+            let mut nodes = [(0.0, Vec3::zero()); 8];
+            for i in 0..8 {
+                nodes[REMAP_CUBE[i]] = (distances[i], centres[indices[i] as usize]);
+            }
+            nodes
+        };
+        order.into_iter().zip(cells.iter().zip(indices.chunks(8)).map(in_corner_order)).collect()
     }
 }
 
@@ -176,6 +211,44 @@ of_the_text! {
         octree.walk_leaves(|key| leaves.push(number(key)));
         (in_asked_order(&octree.all(), &samples.taken.into_inner()), leaves)
     }
+
+    /// The vertices that the text computes for a tree, each with its level, ascending.
+    fn compute_primal_vertices(keys: &[u64], leaves: &[u64]) -> Vec<(u64, usize)> {
+        let vertices = linear_hashed_marching_cubes::primal_vertices(&octree_of(keys, leaves));
+        let mut vertices: Vec<_> = vertices.into_iter().map(|(vertex, level)| (number(vertex), level)).collect();
+        vertices.sort();
+        vertices
+    }
+
+    /// For each vertex with a level, the places of the eight nodes of a tree that the search of `extract_surface` finds, in corner
+    /// order; none, where it finds nothing.
+    fn search_eight_nodes(keys: &[u64], leaves: &[u64], vertices: &[(u64, usize)]) -> Vec<[Option<usize>; 8]> {
+        let map = vertices.iter().map(|&(vertex, level)| (Morton::with_key(vertex), level)).collect();
+        let cells = linear_hashed_marching_cubes::dual_cells(&octree_of(keys, leaves), map);
+        let places = |nodes: &[(f32, math::Vec3); 8]| {
+            let mut places = [None; 8];
+            for (place, &(name, centre)) in places.iter_mut().zip(nodes) {
+                // The text keeps a node's key beside its distance, and its centre tells of the key.
+                let found = if name == 0.0 { Morton::new() } else { Morton::with_key(keys[name as usize - 1]) };
+                assert_eq!([centre.x, centre.y, centre.z], center(number(found)), "the text keeps another key for {:?}", found);
+                *place = (name as usize).checked_sub(1);
+            }
+            places
+        };
+        vertices.iter().map(|&(vertex, _)| places(&cells[&Morton::with_key(vertex)])).collect()
+    }
+}
+
+/// A sound tree in the text's own form, built by the text. Its nodes have names for distances, which the search hands on without
+/// a look at them: one more than the node's place, since 0 is what the text has before it finds anything.
+#[cfg(published_text)]
+fn octree_of(keys: &[u64], leaves: &[u64]) -> linear_hashed_octree::LinearHashedOctree<f32> {
+    let mut octree = linear_hashed_octree::LinearHashedOctree::new();
+    octree.build(
+        |key, _| leaves.binary_search(&number(key)).is_err(),
+        |key| 1.0 + keys.binary_search(&number(key)).expect("a node for each key of a sound tree") as f32,
+    );
+    octree
 }
 
 /// Key, centre, half size and distance.

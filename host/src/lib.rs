@@ -60,6 +60,54 @@ pub mod raw {
             z: &mut f32,
             half: &mut f32,
         ) -> u32;
+        pub fn mittenhelm_sound(
+            keys: *const u64,
+            keys_length: usize,
+            distances: *const f32,
+            distances_length: usize,
+            leaves: *const u64,
+            leaves_length: usize,
+        ) -> u8;
+        pub fn mittenhelm_look_up(
+            keys: *const u64,
+            keys_length: usize,
+            distances: *const f32,
+            distances_length: usize,
+            leaves: *const u64,
+            leaves_length: usize,
+            key: u64,
+            found: &mut u64,
+            distance: &mut f32,
+            tried: &mut u32,
+        ) -> u32;
+        pub fn mittenhelm_list(
+            keys: *const u64,
+            keys_length: usize,
+            distances: *const f32,
+            distances_length: usize,
+            leaves: *const u64,
+            leaves_length: usize,
+            start: usize,
+            vertices: *mut u64,
+            vertices_length: usize,
+            levels: *mut u8,
+            levels_length: usize,
+            count: &mut usize,
+        ) -> u32;
+        pub fn mittenhelm_dual_cell(
+            keys: *const u64,
+            keys_length: usize,
+            distances: *const f32,
+            distances_length: usize,
+            leaves: *const u64,
+            leaves_length: usize,
+            vertex: u64,
+            level: u32,
+            cell_keys: &mut [u64; 8],
+            cell_distances: &mut [f32; 8],
+            tried: &mut u32,
+        ) -> u32;
+        pub fn mittenhelm_slab(vertex: u64, level: u32, exponent: u32, slab: &mut u32) -> u32;
     }
 }
 
@@ -79,13 +127,15 @@ impl Refusal {
             1 => "not a cell key",
             2 => "child, corner or side above 7",
             3 => "child of level 21, or the level given isn't the key's own",
-            4 => "not an inner vertex at that level",
-            5 => "bound above 15",
+            4 => "not an inner vertex at that level, or the tree is the root alone",
+            5 => "bound or slab exponent above 15",
             6 => "no room for another node",
             7 => "no room for another leaf",
             8 => "no room in the queue for eight children",
             9 => "nothing is asked: the build is finished",
             10 => "the state doesn't fit the tables",
+            11 => "not a sound tree",
+            12 => "start place past the end of a table, or no room for all vertices",
             _ => "a number that this wrapper doesn't know",
         }
     }
@@ -223,6 +273,20 @@ impl State {
     pub fn asked(&self) -> Option<u64> {
         Some(self.0[3]).filter(|&key| key != 0)
     }
+
+    /// The tree that a finished build left in its tables: the first keys, distances and leaves, as many as there are. None, where a
+    /// cell is still asked for or the tables are shorter.
+    pub fn tree<'a>(&self, tables: &'a Tables) -> Option<Tree<'a>> {
+        if self.asked().is_some() {
+            return None;
+        }
+        let (nodes, leaves) = (usize::try_from(self.nodes()).ok()?, usize::try_from(self.leaves()).ok()?);
+        Some(Tree {
+            keys: tables.keys.get(..nodes)?,
+            distances: tables.distances.get(..nodes)?,
+            leaves: tables.leaves.get(..leaves)?,
+        })
+    }
 }
 
 /// Begins a build of a depth bound (0 to 15) in the tables, none of which is read or written yet, and asks for the root.
@@ -278,6 +342,124 @@ pub fn distance(state: &mut State, tables: &mut Tables, distance: f32) -> Result
     accepted(number, state.asked().map(|_| Request { key, centre: [x, y, z], half }))
 }
 
+/// A finished tree, from a build or from elsewhere. Every call that reads it refuses one that isn't sound.
+#[derive(Clone, Copy, Debug)]
+pub struct Tree<'a> {
+    /// The nodes' keys, ascending.
+    pub keys: &'a [u64],
+    /// The nodes' distances, in the order of the keys.
+    pub distances: &'a [f32],
+    /// The leaves' keys, ascending.
+    pub leaves: &'a [u64],
+}
+
+/// The deepest ancestor of a cell key, which may be the key itself, and how many keys were tried.
+#[derive(Clone, Copy, Debug, PartialEq)]
+pub enum Lookup {
+    Found { key: u64, distance: f32, tried: u32 },
+    Nothing { tried: u32 },
+}
+
+/// The nodes around a vertex, in corner order (bit 0 is x, bit 1 y, bit 2 z), and how many keys were tried for all eight.
+#[derive(Clone, Copy, Debug, PartialEq)]
+pub struct DualCell {
+    pub keys: [u64; 8],
+    pub distances: [f32; 8],
+    pub tried: u32,
+}
+
+impl Tree<'_> {
+    /// Whether the tree is sound: as many keys as distances; keys strictly ascending, first 1, all cell keys of level at most 15;
+    /// each other key's parent present; each key with all eight children or none; the leaves exactly those with none, ascending.
+    pub fn sound(&self) -> bool {
+        let sound = unsafe {
+            raw::mittenhelm_sound(
+                self.keys.as_ptr(),
+                self.keys.len(),
+                self.distances.as_ptr(),
+                self.distances.len(),
+                self.leaves.as_ptr(),
+                self.leaves.len(),
+            )
+        };
+        sound != 0
+    }
+
+    /// The deepest present of a cell key and its ancestors of level 1 or more.
+    pub fn look_up(&self, key: u64) -> Result<Lookup, Refusal> {
+        let (mut found, mut distance, mut tried) = (0, 0.0, 0);
+        let number = unsafe {
+            raw::mittenhelm_look_up(
+                self.keys.as_ptr(),
+                self.keys.len(),
+                self.distances.as_ptr(),
+                self.distances.len(),
+                self.leaves.as_ptr(),
+                self.leaves.len(),
+                key,
+                &mut found,
+                &mut distance,
+                &mut tried,
+            )
+        };
+        let answer = match found {
+            0 => Lookup::Nothing { tried },
+            key => Lookup::Found { key, distance, tried },
+        };
+        accepted(number, answer)
+    }
+
+    /// Writes every vertex with its level, ascending, from a start place on into both tables. The answer is their number.
+    pub fn list(&self, start: usize, vertices: &mut [u64], levels: &mut [u8]) -> Result<usize, Refusal> {
+        let mut count = 0;
+        let number = unsafe {
+            raw::mittenhelm_list(
+                self.keys.as_ptr(),
+                self.keys.len(),
+                self.distances.as_ptr(),
+                self.distances.len(),
+                self.leaves.as_ptr(),
+                self.leaves.len(),
+                start,
+                vertices.as_mut_ptr(),
+                vertices.len(),
+                levels.as_mut_ptr(),
+                levels.len(),
+                &mut count,
+            )
+        };
+        accepted(number, count)
+    }
+
+    /// The deepest ancestors of the cells of the level on the eight sides of an inner vertex.
+    pub fn dual_cell(&self, vertex: u64, level: u32) -> Result<DualCell, Refusal> {
+        let mut cell = DualCell { keys: [0; 8], distances: [0.0; 8], tried: 0 };
+        let number = unsafe {
+            raw::mittenhelm_dual_cell(
+                self.keys.as_ptr(),
+                self.keys.len(),
+                self.distances.as_ptr(),
+                self.distances.len(),
+                self.leaves.as_ptr(),
+                self.leaves.len(),
+                vertex,
+                level,
+                &mut cell.keys,
+                &mut cell.distances,
+                &mut cell.tried,
+            )
+        };
+        accepted(number, cell)
+    }
+}
+
+/// The slab of the dual cell of an inner vertex at a level, among 2^exponent slabs (0 to 15) along z.
+pub fn slab(vertex: u64, level: u32, exponent: u32) -> Result<u32, Refusal> {
+    let mut slab = 0;
+    let number = unsafe { raw::mittenhelm_slab(vertex, level, exponent, &mut slab) };
+    accepted(number, slab)
+}
+
 #[cfg(test)]
 mod tests {
     use super::*;
@@ -287,7 +469,8 @@ mod tests {
         let told = |number| Refusal { number }.to_string();
         assert_eq!(told(1), "refused 1: not a cell key");
         assert_eq!(told(10), "refused 10: the state doesn't fit the tables");
-        assert!((1..=10).all(|number| !told(number).contains("doesn't know")));
+        assert_eq!(told(11), "refused 11: not a sound tree");
+        assert!((1..=12).all(|number| !told(number).contains("doesn't know")));
         assert_eq!(told(99), "refused 99: a number that this wrapper doesn't know");
     }
 }

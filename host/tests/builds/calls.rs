@@ -1,15 +1,10 @@
 //! One call of start or distance: ours beside the model of document 01. After each, all eight words of the state, every place of
 //! every table and every out parameter must be the model's, and what lies around them as it was.
 
+use crate::lent::Fenced;
 use mittenhelm::raw::{mittenhelm_distance, mittenhelm_start};
 use oracle_answers::model::build::{self, Request, Tables};
 use oracle_answers::model::Answer;
-use std::fmt::Debug;
-
-/// Places before and behind each lent part, where nothing may be written.
-const FENCE: usize = 8;
-const FENCE_WORD: u64 = 0xfe2c_edfe_2ced_fe2c;
-const FENCE_FLOAT: u32 = 0xfe2c_edfe;
 
 /// What out parameters hold before a call.
 const UNTOUCHED: Bits = (0xdead_beef_0bad_cafe, [0xc2f6_e979, 0x7fc1_2345, 0x0000_0007, 0xff80_0001]);
@@ -42,44 +37,6 @@ impl Seen {
     }
 }
 
-/// Lent memory with a fence on both sides.
-#[derive(Clone)]
-struct Fenced<T> {
-    memory: Vec<T>,
-    fence: T,
-}
-
-impl<T: Copy + PartialEq + Debug> Fenced<T> {
-    fn new(part: &[T], fence: T) -> Self {
-        let mut memory = vec![fence; FENCE];
-        memory.extend_from_slice(part);
-        memory.resize(memory.len() + FENCE, fence);
-        Fenced { memory, fence }
-    }
-
-    fn part(&self) -> &[T] {
-        &self.memory[FENCE..self.memory.len() - FENCE]
-    }
-
-    /// The part, for the call to write to.
-    fn lend(&mut self) -> &mut [T] {
-        let end = self.memory.len() - FENCE;
-        &mut self.memory[FENCE..end]
-    }
-
-    fn assert_holds(&self, expected: &[T], what: &str, call: &impl Fn() -> String) {
-        let (before, rest) = self.memory.split_at(FENCE);
-        let (part, behind) = rest.split_at(expected.len());
-        if part != expected {
-            let place = (0..part.len()).find(|&i| part[i] != expected[i]).expect("a place that differs");
-            let (ours, model) = (part[place], expected[place]);
-            panic!("{}: place {place} of the {what} is {ours:x?}, the model says {model:x?}", call());
-        }
-        let kept = before.iter().chain(behind).all(|place| *place == self.fence);
-        assert!(kept, "{}: written beside the {what}", call());
-    }
-}
-
 /// Ours and the model's, side by side: a state and four tables each.
 #[derive(Clone)]
 pub struct Pair {
@@ -97,11 +54,11 @@ pub struct Pair {
 impl Pair {
     pub fn new(words: Vec<u64>, tables: Tables) -> Self {
         Pair {
-            state: Fenced::new(&words, FENCE_WORD),
-            keys: Fenced::new(&tables.keys, FENCE_WORD),
-            distances: Fenced::new(&tables.distances, FENCE_FLOAT),
-            leaves: Fenced::new(&tables.leaves, FENCE_WORD),
-            queue: Fenced::new(&tables.queue, FENCE_WORD),
+            state: Fenced::new(&words),
+            keys: Fenced::new(&tables.keys),
+            distances: Fenced::new(&tables.distances),
+            leaves: Fenced::new(&tables.leaves),
+            queue: Fenced::new(&tables.queue),
             words,
             tables,
         }

@@ -71,7 +71,7 @@ fn refusals_in_words() {
         Err((given, refusal)) => format!("{given}: {refusal}"),
     };
     assert_eq!(told(15, [73, 73, 64, 64]), "accepted");
-    assert_eq!(told(16, [73, 73, 64, 64]), "0: refused 5: bound above 15");
+    assert_eq!(told(16, [73, 73, 64, 64]), "0: refused 5: bound or slab exponent above 15");
     assert_eq!(told(2, [73, 72, 64, 64]), "73: refused 6: no room for another node");
     assert_eq!(told(2, [73, 73, 10, 64]), "20: refused 7: no room for another leaf");
     assert_eq!(told(2, [73, 73, 64, 7]), "1: refused 8: no room in the queue for eight children");

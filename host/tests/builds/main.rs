@@ -5,4 +5,6 @@ mod conditions;
 mod examples;
 mod fields;
 mod forged;
+#[path = "../lent/mod.rs"]
+mod lent;
 mod rooms;

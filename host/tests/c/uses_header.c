@@ -14,11 +14,13 @@ static void expect(bool holds, const char *what)
     }
 }
 
+/* The tables of a build. */
+static uint64_t keys[73], leaves[64], queue[64];
+static float distances[73];
+
 /* A build of bound 2, with a queue of so many places: the number of the distance that was refused, or 0 where it finishes. */
 static unsigned refused_at(size_t queue_length, uint32_t *refusal)
 {
-    static uint64_t keys[73], leaves[64], queue[64];
-    static float distances[73];
     uint64_t state[MITTENHELM_STATE_WORDS], key = 5;
     float x = 5, y = 5, z = 5, half = 5;
     unsigned given = 0;
@@ -45,6 +47,47 @@ static unsigned refused_at(size_t queue_length, uint32_t *refusal)
         &key, &x, &y, &z, &half);
     expect(*refusal == MITTENHELM_NOT_FITTING, "another table");
     return 0;
+}
+
+/* All of them, as a finished build of bound 2 leaves them. */
+#define TREE keys, 73, distances, 73, leaves, 64
+
+/* Reads the tree that the last build left. Its distances are 1 for the root, then 2, 3 and so on, 73 for the last cell. */
+static void read_tree(uint64_t middle)
+{
+    uint64_t vertices[30], cell_keys[8], found = 5;
+    float cell_distances[8], distance = 5;
+    uint8_t levels[30];
+    uint32_t tried = 5, slab = 5;
+    size_t count = 5;
+    int i;
+
+    expect(mittenhelm_sound(TREE), "sound");
+    expect(!mittenhelm_sound(keys, 73, distances, 72, leaves, 64), "a distance too few");
+
+    expect(mittenhelm_look_up(TREE, 8 * 71 + 3, &found, &distance, &tried) == MITTENHELM_ACCEPTED, "look_up");
+    expect(found == 71 && distance == 17.0f && tried == 2, "the deepest ancestor");
+    expect(mittenhelm_look_up(TREE, 1, &found, &distance, &tried) == MITTENHELM_ACCEPTED, "look_up of the root");
+    expect(found == 0 && distance == 17.0f && tried == 0, "the root is never tried");
+    expect(mittenhelm_look_up(TREE, 16, &found, &distance, &tried) == MITTENHELM_NOT_A_CELL, "look_up of no cell");
+    expect(mittenhelm_look_up(keys, 73, distances, 73, leaves, 63, 16, &found, &distance, &tried) == MITTENHELM_NOT_SOUND,
+        "look_up without a leaf");
+
+    vertices[2] = 5;
+    levels[2] = 5;
+    expect(mittenhelm_list(TREE, 4, vertices, 30, levels, 30, &count) == MITTENHELM_LIST_FULL, "list in 26 places");
+    expect(count == 5, "a refused list");
+    expect(mittenhelm_list(TREE, 3, vertices, 30, levels, 30, &count) == MITTENHELM_ACCEPTED, "list in 27 places");
+    expect(count == 27 && vertices[2] == 5 && levels[2] == 5, "before the list");
+    for (i = 3; i < 30; i++)
+        expect(mittenhelm_is_inner(vertices[i], 2) && levels[i] == 2 && (i == 3 || vertices[i - 1] < vertices[i]), "the list");
+
+    expect(mittenhelm_dual_cell(TREE, middle, 2, cell_keys, cell_distances, &tried) == MITTENHELM_ACCEPTED, "dual_cell");
+    expect(cell_keys[0] == 120 && cell_keys[7] == 71 && cell_distances[7] == 17.0f && tried == 8, "the middle's dual cell");
+    expect(mittenhelm_dual_cell(TREE, 71, 2, cell_keys, cell_distances, &tried) == MITTENHELM_NOT_A_VERTEX, "no vertex");
+
+    expect(mittenhelm_slab(middle, 2, 15, &slab) == MITTENHELM_ACCEPTED && slab == 1 << 14, "slab");
+    expect(mittenhelm_slab(middle, 2, 16, &slab) == MITTENHELM_ABOVE_FIFTEEN && slab == 1 << 14, "a slab exponent of 16");
 }
 
 int main(void)
@@ -79,6 +122,7 @@ int main(void)
     expect(!mittenhelm_should_refine(2, 3, NAN), "should_refine of NaN");
 
     expect(refused_at(64, &refusal) == 0, "a queue of 64");
+    read_tree(middle);
     expect(refused_at(63, &refusal) == 9 && refusal == MITTENHELM_QUEUE_FULL, "a queue of 63");
     return wrong;
 }

@@ -10,6 +10,7 @@ use model::{Answer, DEEPEST};
 use std::fmt::Write;
 
 mod builds;
+mod reading;
 
 const LEVEL: u8 = 0x00;
 const IS_CELL: u8 = 0x01;
@@ -26,6 +27,17 @@ const SHOULD_REFINE: u8 = 0x0b;
 
 /// The whole file.
 pub fn text() -> String {
+    lines().text
+}
+
+/// The whole file with the calls that read a tree, which the program doesn't replay yet.
+pub fn text_with_reading() -> String {
+    let mut sample = lines();
+    sample.reading();
+    sample.text
+}
+
+fn lines() -> Sample {
     let mut sample = Sample { text: String::new() };
     sample.numbers();
     sample.sums();
@@ -33,7 +45,7 @@ pub fn text() -> String {
     sample.vertices();
     sample.splits();
     sample.builds();
-    sample.text
+    sample
 }
 
 struct Sample {

@@ -1,6 +1,8 @@
 //! Whole trees over a field: by the rule of document 01, and by both builds of the published text.
 
+use crate::inputs::Random;
 use crate::model::build::Request;
+use crate::model::reading::Tables;
 use crate::{integer, model, published};
 use std::collections::VecDeque;
 
@@ -56,6 +58,15 @@ impl Tree {
         Tree::of((nodes, leaves))
     }
 
+    /// As it is read.
+    pub fn tables(&self) -> Tables {
+        Tables {
+            keys: self.nodes.iter().map(|node| node.request.key).collect(),
+            distances: self.nodes.iter().map(|node| node.distance.to_bits()).collect(),
+            leaves: self.leaves.clone(),
+        }
+    }
+
     pub fn is_leaf(&self, key: u64) -> bool {
         self.leaves.binary_search(&key).is_ok()
     }
@@ -105,4 +116,48 @@ pub fn unreached(integer: &Tree, published: &Tree) -> Vec<Option<usize>> {
         places.push(Some(place).filter(|_| is_right));
     }
     places
+}
+
+/// How the leaf to be split next is chosen.
+#[derive(Clone, Copy, Debug, PartialEq, Eq)]
+pub enum Growth {
+    /// The one that has waited longest: level by level.
+    Even,
+    /// Any.
+    Any,
+    /// Mostly one of the eight that came last.
+    Deep,
+}
+
+pub const GROWTHS: [Growth; 3] = [Growth::Even, Growth::Any, Growth::Deep];
+
+/// A sound tree of so many splits, no level above the deepest: the root alone too, and others that no build makes. Its distances
+/// are any bits, and odd ones.
+pub fn grown(growth: Growth, splits: usize, deepest: u32, random: &mut Random) -> Tables {
+    let (mut split, mut open, mut shut) = (Vec::new(), VecDeque::from([1]), Vec::new());
+    while let Some(last) = open.len().checked_sub(1).filter(|_| split.len() < splits) {
+        let at = match growth {
+            Growth::Even => 0,
+            Growth::Deep if random.below(8) > 0 => last - random.below(last.min(7) as u64 + 1) as usize,
+            _ => random.below(last as u64 + 1) as usize,
+        };
+        let key = open.remove(at).expect("a place in the queue");
+        if model::level(key) == deepest {
+            shut.push(key);
+            continue;
+        }
+        open.extend((0..8).map(|which| 8 * key + which));
+        split.push(key);
+    }
+    let mut leaves: Vec<u64> = open.into_iter().chain(shut).collect();
+    leaves.sort_unstable();
+    let mut keys: Vec<u64> = split.into_iter().chain(leaves.iter().copied()).collect();
+    keys.sort_unstable();
+    let distances = keys.iter().map(|_| if random.below(4) == 0 { odd(random) } else { random.bits() as u32 }).collect();
+    Tables { keys, distances, leaves }
+}
+
+/// The bits of a zero, a subnormal, an infinity, a NaN or the greatest number, of either sign.
+fn odd(random: &mut Random) -> u32 {
+    [0, 1, 0x7f80_0000, 0x7fc0_0000, 0x7f7f_ffff][random.below(5) as usize] | (random.bits() as u32) << 31
 }

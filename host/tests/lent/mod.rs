@@ -1,0 +1,61 @@
+//! Memory that a test lends to a call, and sees what the call did with it.
+
+use std::fmt::Debug;
+
+/// Places before and behind each lent part, where nothing may be written.
+const FENCE: usize = 8;
+
+/// What a table holds: keys, the bits of distances, or levels.
+pub trait Place: Copy + PartialEq + Debug {
+    /// What stands in a fence.
+    const FENCE: Self;
+}
+
+impl Place for u64 {
+    const FENCE: Self = 0xfe2c_edfe_2ced_fe2c;
+}
+
+impl Place for u32 {
+    const FENCE: Self = 0xfe2c_edfe;
+}
+
+impl Place for u8 {
+    const FENCE: Self = 0xfe;
+}
+
+/// Lent memory with a fence on both sides.
+#[derive(Clone)]
+pub struct Fenced<T> {
+    memory: Vec<T>,
+}
+
+impl<T: Place> Fenced<T> {
+    pub fn new(part: &[T]) -> Self {
+        let mut memory = vec![T::FENCE; FENCE];
+        memory.extend_from_slice(part);
+        memory.resize(memory.len() + FENCE, T::FENCE);
+        Fenced { memory }
+    }
+
+    pub fn part(&self) -> &[T] {
+        &self.memory[FENCE..self.memory.len() - FENCE]
+    }
+
+    /// The part, for the call to write to.
+    pub fn lend(&mut self) -> &mut [T] {
+        let end = self.memory.len() - FENCE;
+        &mut self.memory[FENCE..end]
+    }
+
+    pub fn assert_holds(&self, expected: &[T], what: &str, call: &impl Fn() -> String) {
+        let (before, rest) = self.memory.split_at(FENCE);
+        let (part, behind) = rest.split_at(expected.len());
+        if part != expected {
+            let place = (0..part.len()).find(|&i| part[i] != expected[i]).expect("a place that differs");
+            let (ours, model) = (part[place], expected[place]);
+            panic!("{}: place {place} of the {what} is {ours:x?}, the model says {model:x?}", call());
+        }
+        let kept = before.iter().chain(behind).all(|place| *place == T::FENCE);
+        assert!(kept, "{}: written beside the {what}", call());
+    }
+}

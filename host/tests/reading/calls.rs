@@ -1,0 +1,242 @@
+//! One call that reads a tree: ours beside the model of document 01. After each, every out parameter and every place of a lent
+//! table must be the model's, the tree's tables as they were, and so what lies around them.
+
+use crate::lent::Fenced;
+use mittenhelm::raw::{mittenhelm_dual_cell, mittenhelm_list, mittenhelm_look_up, mittenhelm_slab, mittenhelm_sound};
+use oracle_answers::inputs::Random;
+use oracle_answers::model::reading::{self, DualCell, Lookup, Reading, Tables};
+use oracle_answers::model::{level, Answer};
+use std::fmt::{Debug, Display};
+
+/// What out parameters hold before a call.
+const UNTOUCHED: u64 = 0xdead_beef_0bad_cafe;
+const UNTOUCHED_FLOAT: u32 = 0xc2f6_e979;
+const UNTOUCHED_COUNT: u32 = 0x7fc1_2345;
+
+/// How often each answer was seen.
+#[derive(Debug, Default)]
+pub struct Seen {
+    pub refused: [u64; 13],
+    pub sound: u64,
+    pub unsound: u64,
+    /// Lookups by the level that was asked for: which found the key itself, an ancestor, or nothing.
+    pub itself: [u64; 22],
+    pub ancestor: [u64; 22],
+    pub nothing: [u64; 22],
+    /// Lists that were written: with vertices, and those with none.
+    pub lists: u64,
+    pub empty_lists: u64,
+    /// Dual cells by level.
+    pub cells: [u64; 21],
+    /// Slabs by exponent.
+    pub slabs: [u64; 16],
+}
+
+impl Seen {
+    /// Asserts that each refusal of the list was seen so often, and no other at all.
+    pub fn assert_refused(&self, times: u64, numbers: &[usize]) {
+        for (number, &seen) in self.refused.iter().enumerate() {
+            let enough = if numbers.contains(&number) { seen >= times } else { seen == 0 };
+            assert!(enough, "refusal {number} was seen {seen} times: {self:?}");
+        }
+    }
+
+    fn count_lookup(&mut self, asked: u64, answer: Lookup) {
+        let counts = match answer {
+            Lookup::Found { key, .. } if key == asked => &mut self.itself,
+            Lookup::Found { .. } => &mut self.ancestor,
+            Lookup::Nothing { .. } => &mut self.nothing,
+        };
+        counts[level(asked) as usize] += 1;
+    }
+
+    fn count_refusal<T>(&mut self, answer: Answer<T>) {
+        if let Err(number) = answer {
+            self.refused[number as usize] += 1;
+        }
+    }
+}
+
+/// A tree that is given to calls, sound or not, and what the model makes of it.
+pub struct Given {
+    keys: Fenced<u64>,
+    distances: Fenced<u32>,
+    leaves: Fenced<u64>,
+    pub tables: Tables,
+    pub reading: Reading,
+}
+
+/// Calls a function of the boundary with the three tables first.
+macro_rules! with_tree {
+    ($call:ident, $given:expr $(, $more:expr)*) => {{
+        let (keys, distances, leaves) = ($given.keys.part(), $given.distances.part(), $given.leaves.part());
+        unsafe {
+            $call(
+                keys.as_ptr(),
+                keys.len(),
+                distances.as_ptr().cast(),
+                distances.len(),
+                leaves.as_ptr(),
+                leaves.len(),
+                $($more),*
+            )
+        }
+    }};
+}
+
+impl Given {
+    pub fn new(tables: Tables) -> Self {
+        Given {
+            keys: Fenced::new(&tables.keys),
+            distances: Fenced::new(&tables.distances),
+            leaves: Fenced::new(&tables.leaves),
+            reading: Reading::of(&tables),
+            tables,
+        }
+    }
+
+    /// The vertices of a sound tree with their levels.
+    pub fn vertices(&self) -> Vec<(u64, u32)> {
+        self.reading.vertices().expect("a sound tree")
+    }
+
+    pub fn sound(&self, seen: &mut Seen) -> bool {
+        let expected = self.reading.is_sound();
+        let ours = with_tree!(mittenhelm_sound, self);
+        self.agree(&ours, &(expected as u8), "sound()");
+        *if expected { &mut seen.sound } else { &mut seen.unsound } += 1;
+        expected
+    }
+
+    pub fn look_up(&self, key: u64, seen: &mut Seen) -> Answer<Lookup> {
+        let expected = self.reading.look_up(key);
+        let (mut found, mut distance, mut tried) = (UNTOUCHED, f32::from_bits(UNTOUCHED_FLOAT), UNTOUCHED_COUNT);
+        let number = with_tree!(mittenhelm_look_up, self, key, &mut found, &mut distance, &mut tried);
+        let expected_out = match expected {
+            Ok(Lookup::Found { key, distance, tried }) => (0, key, one_nan(distance), tried),
+            Ok(Lookup::Nothing { tried }) => (0, 0, UNTOUCHED_FLOAT, tried),
+            Err(number) => (number, UNTOUCHED, UNTOUCHED_FLOAT, UNTOUCHED_COUNT),
+        };
+        self.agree(&(number, found, one_nan(distance.to_bits()), tried), &expected_out, format_args!("look_up({key:#x})"));
+        match expected {
+            Ok(answer) => seen.count_lookup(key, answer),
+            refused => seen.count_refusal(refused),
+        }
+        expected
+    }
+
+    /// Lists from a start place on, in a vertex table and a level table of these lengths.
+    pub fn list(&self, start: usize, [vertices, levels]: [usize; 2], seen: &mut Seen) -> Answer<usize> {
+        // Each place holds something else, and nothing that a list writes.
+        let mut vertices: Vec<u64> = (0..vertices as u64).map(|place| 0x0bad_0000_0000_0000 + place).collect();
+        let mut levels: Vec<u8> = (0..levels).map(|place| 0x80 + (place % 0x70) as u8).collect();
+        let (mut our_vertices, mut our_levels) = (Fenced::new(&vertices), Fenced::new(&levels));
+        let call = format!("list from {start:#x} on in tables of {} and {}", vertices.len(), levels.len());
+        let expected = self.reading.list(start, &mut vertices, &mut levels);
+
+        let mut count = UNTOUCHED as usize;
+        let (lent_vertices, lent_levels) = (our_vertices.lend(), our_levels.lend());
+        let number = with_tree!(
+            mittenhelm_list,
+            self,
+            start,
+            lent_vertices.as_mut_ptr(),
+            lent_vertices.len(),
+            lent_levels.as_mut_ptr(),
+            lent_levels.len(),
+            &mut count
+        );
+        let expected_out = expected.map_or_else(|number| (number, UNTOUCHED as usize), |count| (0, count));
+        self.agree(&(number, count), &expected_out, &call);
+        our_vertices.assert_holds(&vertices, "vertices", &|| self.told(&call));
+        our_levels.assert_holds(&levels, "levels", &|| self.told(&call));
+        match expected {
+            Ok(0) => seen.empty_lists += 1,
+            Ok(_) => seen.lists += 1,
+            refused => seen.count_refusal(refused),
+        }
+        expected
+    }
+
+    pub fn dual_cell(&self, vertex: u64, level: u32, seen: &mut Seen) -> Answer<DualCell> {
+        let expected = self.reading.dual_cell(vertex, level);
+        let (mut keys, mut distances, mut tried) =
+            (Fenced::new(&[UNTOUCHED; 8]), Fenced::new(&[UNTOUCHED_FLOAT; 8]), UNTOUCHED_COUNT);
+        let number = with_tree!(
+            mittenhelm_dual_cell,
+            self,
+            vertex,
+            level,
+            &mut *keys.lend().as_mut_ptr().cast(),
+            &mut *distances.lend().as_mut_ptr().cast(),
+            &mut tried
+        );
+        let (expected_number, cell) = match expected {
+            Ok(cell) => (0, cell),
+            Err(number) => (number, DualCell { keys: [UNTOUCHED; 8], distances: [UNTOUCHED_FLOAT; 8], tried: UNTOUCHED_COUNT }),
+        };
+        let call = format!("dual_cell({vertex:#x}, {level})");
+        self.agree(&(number, tried), &(expected_number, cell.tried), &call);
+        keys.assert_holds(&cell.keys, "eight keys", &|| self.told(&call));
+        distances.lend().iter_mut().for_each(|bits| *bits = one_nan(*bits));
+        distances.assert_holds(&cell.distances.map(one_nan), "eight distances", &|| self.told(&call));
+        match expected {
+            Ok(_) => seen.cells[level as usize] += 1,
+            refused => seen.count_refusal(refused),
+        }
+        expected
+    }
+
+    /// Each call once, with parameters of all kinds. Of an unsound tree nothing is told, whatever else is wrong.
+    pub fn every_call(&self, random: &mut Random, seen: &mut Seen) {
+        self.sound(seen);
+        let _ = self.look_up(random.number(), seen);
+        let _ = self.list(random.below(3) as usize, [[0, 2000][random.below(2) as usize]; 2], seen);
+        let (vertex, level) = random.vertex_and_level();
+        let _ = self.dual_cell(vertex, level, seen);
+    }
+
+    fn agree<T: PartialEq + Debug>(&self, ours: &T, model: &T, call: impl Display) {
+        assert!(ours == model, "{}: ours is {ours:x?}, the model says {model:x?}", self.told(&call));
+        let told = || self.told(&call);
+        self.keys.assert_holds(&self.tables.keys, "tree's keys", &told);
+        self.distances.assert_holds(&self.tables.distances, "tree's distances", &told);
+        self.leaves.assert_holds(&self.tables.leaves, "tree's leaves", &told);
+    }
+
+    /// A call with the tree that it was given, for a message.
+    fn told(&self, call: &impl Display) -> String {
+        let Tables { keys, distances, leaves } = &self.tables;
+        let (first, some) = (keys.len().min(30), leaves.len().min(30));
+        format!(
+            "{call} of {} keys {:?}.., {} distances and {} leaves {:?}..",
+            keys.len(),
+            &keys[..first],
+            distances.len(),
+            leaves.len(),
+            &leaves[..some]
+        )
+    }
+}
+
+/// No promise settles the bits of a NaN: one stands for all.
+fn one_nan(bits: u32) -> u32 {
+    if f32::from_bits(bits).is_nan() {
+        f32::NAN.to_bits()
+    } else {
+        bits
+    }
+}
+
+pub fn slab(vertex: u64, level: u32, exponent: u32, seen: &mut Seen) -> Answer<u32> {
+    let expected = reading::slab(vertex, level, exponent);
+    let mut slab = UNTOUCHED_COUNT;
+    let number = unsafe { mittenhelm_slab(vertex, level, exponent, &mut slab) };
+    let expected_out = expected.map_or_else(|number| (number, UNTOUCHED_COUNT), |slab| (0, slab));
+    assert_eq!((number, slab), expected_out, "slab({vertex:#x}, {level}, {exponent}): ours and the model's");
+    match expected {
+        Ok(_) => seen.slabs[exponent as usize] += 1,
+        refused => seen.count_refusal(refused),
+    }
+    expected
+}

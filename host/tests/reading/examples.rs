@@ -1,0 +1,186 @@
+//! Document 01's examples of reading, and the safe functions as a host uses them.
+
+use crate::calls::Given;
+use mittenhelm::{distance, slab, start, DualCell, Lookup, State, Tables, Tree};
+use oracle_answers::fields::cell_at;
+use oracle_answers::inputs::Random;
+use oracle_answers::model::reading::{self, Reading};
+use oracle_answers::trees::{self, grown, GROWTHS};
+
+const MIDDLE: u64 = 0xf000_0000_0000_0000;
+
+/// Tables in which a build was finished.
+struct Built {
+    keys: Vec<u64>,
+    distances: Vec<f32>,
+    leaves: Vec<u64>,
+    queue: Vec<u64>,
+    state: State,
+}
+
+impl Built {
+    fn new(bound: u32, field: impl Fn(u64) -> f32) -> Self {
+        let mut built = Built {
+            keys: vec![0; 100],
+            distances: vec![0.0; 110],
+            leaves: vec![0; 120],
+            queue: vec![0; 130],
+            state: State([0; 8]),
+        };
+        let mut tables =
+            Tables { keys: &mut built.keys, distances: &mut built.distances, leaves: &mut built.leaves, queue: &mut built.queue };
+        let (mut state, mut request) = start(bound, &tables).expect("a bound up to 15");
+        assert!(state.tree(&tables).is_none());
+        while let Some(next) = distance(&mut state, &mut tables, field(request.key)).expect("room enough") {
+            assert!(state.tree(&tables).is_none());
+            request = next;
+        }
+        built.state = state;
+        built
+    }
+
+    fn read<T>(&mut self, read: impl Fn(Tree) -> T) -> T {
+        let Built { keys, distances, leaves, queue, state } = self;
+        read(state.tree(&Tables { keys, distances, leaves, queue }).expect("a finished build"))
+    }
+}
+
+fn at_64(key: u64) -> f32 {
+    if key == 64 {
+        0.0
+    } else {
+        1.0
+    }
+}
+
+/// Nodes, leaves and vertices of a tree.
+fn counted(tree: Tree) -> [usize; 3] {
+    let vertices = tree.list(0, &mut [0; 1024], &mut [0; 1024]).expect("room enough");
+    [tree.keys.len(), tree.leaves.len(), vertices]
+}
+
+#[test]
+fn nodes_leaves_and_vertices() {
+    assert_eq!(Built::new(2, |_| 1.0).read(counted), [73, 64, 27]);
+    assert_eq!(Built::new(3, at_64).read(counted), [81, 71, 34]);
+}
+
+#[test]
+fn a_dual_cell_of_two_levels() {
+    let corner = mittenhelm::vertex(519, 3, 7).expect("a cell key with its own level");
+    let cell = Built::new(3, at_64).read(|tree| tree.dual_cell(corner, 3));
+    let expected = DualCell { keys: [71, 70, 69, 68, 67, 66, 65, 519], distances: [1.0; 8], tried: 15 };
+    assert_eq!(cell, Ok(expected));
+}
+
+#[test]
+fn a_dual_cell_of_the_finest_level() {
+    let corner = mittenhelm::vertex(512, 3, 7).expect("a cell key with its own level");
+    let cell = Built::new(3, at_64).read(|tree| tree.dual_cell(corner, 3)).expect("an inner vertex");
+    assert_eq!((cell.keys, cell.tried), ([519, 518, 517, 516, 515, 514, 513, 512], 8));
+}
+
+/// The same dual cells by the text, whose tree of this field is another one: the integer build's.
+#[test]
+fn the_examples_by_the_text() {
+    let field = |p| at_64(cell_at(p));
+    let tree =
+        if oracle_answers::compares_with_text() { trees::Tree::by_integer(3, &field) } else { trees::Tree::by_rule(3, &field) };
+    let given = Given::new(tree.tables());
+    let mut built = Built::new(3, at_64);
+    built.read(|tree| {
+        assert_eq!((tree.keys, tree.leaves), (&given.tables.keys[..], &given.tables.leaves[..]));
+        assert!(tree.distances.iter().map(|d| d.to_bits()).eq(given.tables.distances.iter().copied()));
+    });
+    assert_eq!(given.vertices().len(), 34);
+}
+
+#[test]
+fn lookups() {
+    let look_up = |key| Built::new(3, at_64).read(|tree| tree.look_up(key).map_err(|refusal| refusal.number()));
+    assert_eq!(look_up(64), Ok(Lookup::Found { key: 64, distance: 0.0, tried: 1 }));
+    assert_eq!(look_up(65 * 64 + 9), Ok(Lookup::Found { key: 65, distance: 1.0, tried: 3 }));
+    assert_eq!(look_up(u64::MAX), Ok(Lookup::Found { key: 127, distance: 1.0, tried: 20 }));
+    assert_eq!(look_up(1), Ok(Lookup::Nothing { tried: 0 }));
+    assert_eq!(look_up(16), Err(1));
+    let root = Tree { keys: &[1], distances: &[2.0], leaves: &[1] };
+    assert_eq!(root.look_up(u64::MAX), Ok(Lookup::Nothing { tried: 21 }));
+}
+
+#[test]
+fn refusals_in_words() {
+    let told = |refused: Result<(), mittenhelm::Refusal>| {
+        refused.map_or_else(|refusal| refusal.to_string(), |()| "accepted".to_string())
+    };
+    let root = Tree { keys: &[1], distances: &[2.0], leaves: &[1] };
+    let none = Tree { leaves: &[], ..root };
+    assert!(root.sound() && !none.sound());
+    assert_eq!(told(none.look_up(0).map(|_| ())), "refused 11: not a sound tree");
+    assert_eq!(told(root.look_up(0).map(|_| ())), "refused 1: not a cell key");
+    assert_eq!(told(root.list(0, &mut [], &mut []).map(|_| ())), "accepted");
+    assert_eq!(
+        told(root.list(1, &mut [0], &mut []).map(|_| ())),
+        "refused 12: start place past the end of a table, or no room for all vertices"
+    );
+    assert_eq!(
+        told(root.dual_cell(MIDDLE, 1).map(|_| ())),
+        "refused 4: not an inner vertex at that level, or the tree is the root alone"
+    );
+    assert_eq!(told(slab(MIDDLE, 1, 16).map(|_| ())), "refused 5: bound or slab exponent above 15");
+    assert_eq!(slab(MIDDLE, 1, 15), Ok(1 << 14));
+}
+
+/// A state that isn't of these tables gives no tree.
+#[test]
+fn a_tree_of_shorter_tables() {
+    let mut built = Built::new(2, |_| 1.0);
+    built.keys.truncate(73);
+    assert_eq!(built.read(|tree| tree.sound()), true);
+    built.keys.truncate(72);
+    let Built { keys, distances, leaves, queue, state } = &mut built;
+    assert!(state.tree(&Tables { keys, distances, leaves, queue }).is_none());
+}
+
+/// The safe functions hand on what the C functions say.
+#[test]
+fn wrappers() {
+    let mut random = Random::new(9);
+    let number = |refusal: mittenhelm::Refusal| refusal.number();
+    for round in 0..300 {
+        let mut tables = grown(GROWTHS[round % 3], round / 10, 15, &mut random);
+        // The wrapper hands floats on by value; a NaN is no equal of itself.
+        tables.distances.iter_mut().for_each(|bits| *bits &= 0xbfff_ffff);
+        if round % 10 == 7 {
+            tables.leaves.pop();
+        }
+        let distances: Vec<f32> = tables.distances.iter().map(|&bits| f32::from_bits(bits)).collect();
+        let tree = Tree { keys: &tables.keys, distances: &distances, leaves: &tables.leaves };
+        let model = Reading::of(&tables);
+        assert_eq!(tree.sound(), model.is_sound());
+        for _ in 0..50 {
+            let key = random.number();
+            let expected = model.look_up(key).map(|answer| match answer {
+                reading::Lookup::Found { key, distance, tried } => {
+                    Lookup::Found { key, distance: f32::from_bits(distance), tried }
+                }
+                reading::Lookup::Nothing { tried } => Lookup::Nothing { tried },
+            });
+            assert_eq!(tree.look_up(key).map_err(number), expected);
+            let (vertex, level) = random.vertex_and_level();
+            let expected = model.dual_cell(vertex, level).map(|cell| DualCell {
+                keys: cell.keys,
+                distances: cell.distances.map(f32::from_bits),
+                tried: cell.tried,
+            });
+            assert_eq!(tree.dual_cell(vertex, level).map_err(number), expected);
+            let exponent = random.below(18) as u32;
+            assert_eq!(slab(vertex, level, exponent).map_err(number), reading::slab(vertex, level, exponent));
+        }
+        let (start, lengths) = (random.below(4) as usize, [random.below(600), random.below(600)].map(|length| length as usize));
+        let (mut vertices, mut levels) = (vec![7; lengths[0]], vec![7; lengths[1]]);
+        let (mut expected_vertices, mut expected_levels) = (vertices.clone(), levels.clone());
+        let expected = model.list(start, &mut expected_vertices, &mut expected_levels);
+        assert_eq!(tree.list(start, &mut vertices, &mut levels).map_err(number), expected);
+        assert_eq!((vertices, levels), (expected_vertices, expected_levels));
+    }
+}

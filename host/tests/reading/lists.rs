@@ -1,0 +1,122 @@
+//! Lists: every start place and every room around the edge, for both tables. `Given::list` sees to every place.
+
+use crate::calls::{Given, Seen};
+use oracle_answers::inputs::Random;
+use oracle_answers::trees::{grown, Growth, GROWTHS};
+
+/// Start places so great that a sum with the number of vertices runs over, or nearly.
+fn great_starts(count: usize) -> [usize; 7] {
+    let to_zero = usize::MAX - count.max(1) + 1;
+    [usize::MAX, usize::MAX - 1, to_zero, to_zero - 1, 1 << 63, 1 << 32, 1 << 16]
+}
+
+/// Lengths around a start place and around the end of the list.
+fn lengths(start: usize, count: usize) -> Vec<usize> {
+    let mut lengths = vec![0, 1, start, start + 1, start + count / 2, start + count, start + count + 1, start + count + 9];
+    lengths.extend([start, start + count].iter().filter_map(|edge| edge.checked_sub(1)));
+    lengths.sort_unstable();
+    lengths.dedup();
+    lengths
+}
+
+/// Each start of some, and for both tables each length around the edges.
+fn list_around(given: &Given, starts: &[usize], seen: &mut Seen) {
+    let count = given.vertices().len();
+    for &start in starts {
+        let lengths = lengths(start, count);
+        for &vertices in &lengths {
+            for &levels in &lengths {
+                let fits = |length| length >= start + count;
+                let answer = given.list(start, [vertices, levels], seen);
+                assert_eq!(answer, if fits(vertices) && fits(levels) { Ok(count) } else { Err(12) });
+            }
+        }
+    }
+    for start in great_starts(count) {
+        for length in [0, 1, count, count + 1, count + 8] {
+            assert_eq!(given.list(start, [length, length + 3], seen), Err(12));
+            assert_eq!(given.list(start, [length + 3, length], seen), Err(12));
+        }
+    }
+}
+
+/// The root alone has an empty list, which fits at the end of a table; nine nodes have one vertex.
+#[test]
+fn every_start_and_length() {
+    let (mut random, mut seen) = (Random::new(1), Seen::default());
+    for (splits, count) in [(0, 0), (1, 1)] {
+        let given = Given::new(grown(Growth::Even, splits, 15, &mut random));
+        for start in 0..9 {
+            for vertices in 0..12 {
+                for levels in 0..12 {
+                    let fits = start + count <= vertices.min(levels);
+                    assert_eq!(given.list(start, [vertices, levels], &mut seen), if fits { Ok(count) } else { Err(12) });
+                }
+            }
+        }
+        list_around(&given, &(0..20).collect::<Vec<_>>(), &mut seen);
+    }
+    assert!(seen.empty_lists > 400 && seen.lists > 300, "{seen:?}");
+    seen.assert_refused(1000, &[12]);
+}
+
+#[test]
+fn around_the_edges() {
+    let (mut random, mut seen) = (Random::new(2), Seen::default());
+    for round in 0..60 {
+        let given = Given::new(grown(GROWTHS[round % 3], 2 + round / 2, 15, &mut random));
+        list_around(&given, &[0, 1, 2, random.below(50) as usize], &mut seen);
+    }
+    println!("lists around the edges: {seen:?}");
+    assert!(seen.lists > 1500, "{seen:?}");
+    seen.assert_refused(10_000, &[12]);
+}
+
+/// Trees of all sizes, in tables that are long enough.
+#[test]
+fn of_many_trees() {
+    let (mut random, mut seen) = (Random::new(3), Seen::default());
+    let mut levels = [0; 16];
+    for round in 0..600 {
+        let given = Given::new(grown(GROWTHS[round % 3], round / 5, 15, &mut random));
+        let (start, more) = (random.below(30) as usize, random.below(3) as usize);
+        let vertices = given.vertices();
+        vertices.iter().for_each(|&(_, level)| levels[level as usize] += 1);
+        assert_eq!(given.list(start, [start + vertices.len(), start + vertices.len() + more], &mut seen), Ok(vertices.len()));
+    }
+    println!("vertices of each level: {levels:?}");
+    assert!(levels[1] > 3 && levels[2..].iter().all(|&seen| seen > 100), "{levels:?}");
+    assert!(seen.lists > 550 && seen.empty_lists > 4, "{seen:?}");
+}
+
+#[test]
+fn of_great_trees() {
+    let (mut random, mut seen) = (Random::new(4), Seen::default());
+    for (growth, splits) in [(Growth::Even, 512), (Growth::Any, 512), (Growth::Deep, 512), (Growth::Any, 700)] {
+        let given = Given::new(grown(growth, splits, 15, &mut random));
+        let count = given.vertices().len();
+        for (start, lengths) in
+            [(0, [count; 2]), (5, [count + 9, count + 5]), (5, [count + 4, count + 5]), (5, [count + 5, count + 4])]
+        {
+            let fits = lengths.iter().all(|length| length - start >= count);
+            assert_eq!(given.list(start, lengths, &mut seen), if fits { Ok(count) } else { Err(12) });
+        }
+    }
+}
+
+/// A tree that isn't sound is told of first.
+#[test]
+fn refusals_in_their_order() {
+    let (mut random, mut seen) = (Random::new(5), Seen::default());
+    for splits in [0, 1, 9, 20] {
+        let mut tables = grown(Growth::Any, splits, 15, &mut random);
+        tables.leaves.pop();
+        let given = Given::new(tables);
+        for start in [0, 3, usize::MAX] {
+            for lengths in [[0, 0], [2, 0], [300, 300]] {
+                assert_eq!(given.list(start, lengths, &mut seen), Err(11));
+            }
+        }
+    }
+    seen.assert_refused(36, &[11]);
+}

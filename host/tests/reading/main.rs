@@ -1,0 +1,14 @@
+//! The calls that read a finished tree, against the published text, both builds of it, and against the model of document 01; and
+//! the program `counts`.
+
+mod calls;
+mod cells;
+mod counts;
+mod examples;
+#[path = "../lent/mod.rs"]
+mod lent;
+mod lists;
+mod lookups;
+mod slabs;
+mod soundness;
+mod text;

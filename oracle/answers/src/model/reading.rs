@@ -1,0 +1,214 @@
+//! Document 01, "Reading a finished tree", condition by condition over sets and maps; and what the program `counts` prints.
+
+use super::build::{self, STATE_WORDS};
+use super::{every_third_bit, is_cell, is_inner, level, side, vertex, Answer};
+use std::collections::{BTreeMap, BTreeSet};
+
+/// A tree as it is given, sound or not. Distances are bits here, so that two NaNs can be told apart.
+#[derive(Clone, Debug, Default, PartialEq, Eq)]
+pub struct Tables {
+    pub keys: Vec<u64>,
+    pub distances: Vec<u32>,
+    pub leaves: Vec<u64>,
+}
+
+const GREATEST_LEVEL: u32 = 15;
+const GREATEST_EXPONENT: u32 = 15;
+
+/// What a lookup answers: both with the number of keys tried.
+#[derive(Clone, Copy, Debug, PartialEq, Eq)]
+pub enum Lookup {
+    Found { key: u64, distance: u32, tried: u32 },
+    Nothing { tried: u32 },
+}
+
+/// Eight keys and eight distances in corner order, and the sum of keys tried.
+#[derive(Clone, Copy, Debug, PartialEq, Eq)]
+pub struct DualCell {
+    pub keys: [u64; 8],
+    pub distances: [u32; 8],
+    pub tried: u32,
+}
+
+fn ascends(keys: &[u64]) -> bool {
+    keys.windows(2).all(|two| two[0] < two[1])
+}
+
+/// The children that a key of level at most 15 has or would have.
+fn children(key: u64) -> impl Iterator<Item = u64> {
+    (0..8).map(move |which| 8 * key + which)
+}
+
+impl Tables {
+    pub fn is_sound(&self) -> bool {
+        if self.keys.len() != self.distances.len() {
+            return false;
+        }
+        if !ascends(&self.keys) || self.keys.first() != Some(&1) {
+            return false;
+        }
+        if !self.keys.iter().all(|&key| is_cell(key) && level(key) <= GREATEST_LEVEL) {
+            return false;
+        }
+        let present: BTreeSet<u64> = self.keys.iter().copied().collect();
+        let children_of = |key| children(key).filter(|child| present.contains(child)).count();
+        let without: Vec<u64> = self.keys.iter().copied().filter(|&key| children_of(key) == 0).collect();
+        self.keys.iter().all(|&key| key == 1 || present.contains(&(key / 8)))
+            && self.keys.iter().all(|&key| [0, 8].contains(&children_of(key)))
+            && self.leaves == without
+    }
+}
+
+/// A sound tree as reading needs it, or none.
+pub struct Reading {
+    tree: Option<Sound>,
+}
+
+struct Sound {
+    nodes: BTreeMap<u64, u32>,
+    vertices: BTreeMap<u64, u32>,
+}
+
+/// Every inner vertex of every leaf, with the greatest level of the leaves that give it.
+fn vertices(leaves: &[u64]) -> BTreeMap<u64, u32> {
+    let mut vertices = BTreeMap::new();
+    for &leaf in leaves {
+        for corner in 0..8 {
+            let at = vertex(leaf, level(leaf), corner).expect("a cell key with its own level");
+            if at != 0 {
+                let greatest = vertices.entry(at).or_insert(0);
+                *greatest = level(leaf).max(*greatest);
+            }
+        }
+    }
+    vertices
+}
+
+impl Reading {
+    pub fn of(tables: &Tables) -> Self {
+        let sound = || Sound {
+            nodes: tables.keys.iter().copied().zip(tables.distances.iter().copied()).collect(),
+            vertices: vertices(&tables.leaves),
+        };
+        Reading { tree: Some(tables).filter(|tables| tables.is_sound()).map(|_| sound()) }
+    }
+
+    pub fn is_sound(&self) -> bool {
+        self.tree.is_some()
+    }
+
+    fn sound(&self) -> Answer<&Sound> {
+        self.tree.as_ref().ok_or(11)
+    }
+
+    pub fn look_up(&self, key: u64) -> Answer<Lookup> {
+        let tree = self.sound()?;
+        if !is_cell(key) {
+            return Err(1);
+        }
+        Ok(tree.look_up(key))
+    }
+
+    /// Every vertex with its level, ascending.
+    pub fn vertices(&self) -> Answer<Vec<(u64, u32)>> {
+        Ok(self.sound()?.vertices.iter().map(|(&vertex, &level)| (vertex, level)).collect())
+    }
+
+    /// Writes the list from a start place on. The answer is the number of vertices.
+    pub fn list(&self, start: usize, vertices: &mut [u64], levels: &mut [u8]) -> Answer<usize> {
+        let list = self.vertices()?;
+        let fits = |length: usize| start <= length && list.len() <= length - start;
+        if !fits(vertices.len()) || !fits(levels.len()) {
+            return Err(12);
+        }
+        for (i, &(vertex, level)) in list.iter().enumerate() {
+            vertices[start + i] = vertex;
+            levels[start + i] = level as u8;
+        }
+        Ok(list.len())
+    }
+
+    pub fn dual_cell(&self, vertex: u64, level: u32) -> Answer<DualCell> {
+        let tree = self.sound()?;
+        if !is_inner(vertex, level) || tree.nodes.len() == 1 {
+            return Err(4);
+        }
+        let mut cell = DualCell { keys: [0; 8], distances: [0; 8], tried: 0 };
+        for which in 0..8 {
+            match tree.look_up(side(vertex, level, which as u32).expect("an inner vertex")) {
+                Lookup::Found { key, distance, tried } => {
+                    cell.keys[which] = key;
+                    cell.distances[which] = distance;
+                    cell.tried += tried;
+                }
+                Lookup::Nothing { .. } => unreachable!("all of level 1 is present"),
+            }
+        }
+        Ok(cell)
+    }
+}
+
+impl Sound {
+    /// Of the key and its ancestors of level 1 or more, the deepest present.
+    fn look_up(&self, asked: u64) -> Lookup {
+        let mut key = asked;
+        while level(key) >= 1 {
+            if let Some(&distance) = self.nodes.get(&key) {
+                return Lookup::Found { key, distance, tried: level(asked) - level(key) + 1 };
+            }
+            key /= 8;
+        }
+        Lookup::Nothing { tried: level(asked) }
+    }
+}
+
+/// z of the vertex at level 21, divided by 2^(21-s), rounded down.
+pub fn slab(vertex: u64, level: u32, exponent: u32) -> Answer<u32> {
+    if !is_inner(vertex, level) {
+        return Err(4);
+    }
+    if exponent > GREATEST_EXPONENT {
+        return Err(5);
+    }
+    Ok((every_third_bit(vertex, 2, 21) / 2u64.pow(21 - exponent)) as u32)
+}
+
+/// The length of each table of `counts`.
+const COUNTS_ROOM: usize = 1024;
+
+/// What `counts` prints for the bytes of its input.
+pub fn counts(input: &[u8]) -> String {
+    match counted(input) {
+        None => "short\n".to_string(),
+        Some(Err(number)) => format!("refused {number}\n"),
+        Some(Ok([nodes, leaves, vertices])) => format!("{nodes} {leaves} {vertices}\n"),
+    }
+}
+
+/// Nodes, leaves and vertices, or a refusal; none, where the input ends first.
+fn counted(input: &[u8]) -> Option<Answer<[usize; 3]>> {
+    let (&bound, input) = input.split_first()?;
+    let mut distances = input.chunks_exact(4).map(|bytes| f32::from_le_bytes([bytes[0], bytes[1], bytes[2], bytes[3]]));
+    let (mut state, mut tables) = ([0; STATE_WORDS], build::Tables::of([COUNTS_ROOM; 4]));
+    if let Err(number) = build::start(bound as u32, &tables, &mut state) {
+        return Some(Err(number));
+    }
+    loop {
+        match build::distance(&mut state, &mut tables, distances.next()?) {
+            Err(number) => return Some(Err(number)),
+            Ok(Some(_)) => {}
+            Ok(None) => break,
+        }
+    }
+    let tree = Tables::finished(&state, &tables);
+    let vertices = Reading::of(&tree).list(0, &mut [0; COUNTS_ROOM], &mut [0; COUNTS_ROOM]);
+    Some(vertices.map(|vertices| [tree.keys.len(), tree.leaves.len(), vertices]))
+}
+
+impl Tables {
+    /// The tree of a finished build: the first n keys and distances and the first m leaves.
+    pub fn finished(state: &[u64; STATE_WORDS], tables: &build::Tables) -> Self {
+        let (n, m) = (state[1] as usize, state[2] as usize);
+        Tables { keys: tables.keys[..n].to_vec(), distances: tables.distances[..n].to_vec(), leaves: tables.leaves[..m].to_vec() }
+    }
+}

@@ -1,0 +1,293 @@
+//! Reading in the sample. Put lines write a tree into the tables of 1,024 that builds use, and the lines after them lend the first
+//! places, as many as each says:
+//!
+//! | OP | A | B | C | X | Y | Z |
+//! |---|---|---|---|---|---|---|
+//! | 10 put | place, distance | key | leaf | | | |
+//! | 11 sound | lengths | | | 1 or 0 | | |
+//! | 12 look_up | lengths | key | | key found | its distance | keys tried |
+//! | 13 list | lengths | start | both lengths | count | | |
+//! | 14 listed | place | | | vertex | level | |
+//! | 15 dual_cell | lengths, corner | vertex | level | key of the corner | its distance | keys tried for all eight |
+//! | 16 slab | vertex | level | exponent | slab | | |
+//!
+//! Put writes one place of keys, distances and leaves; the distance stands in A's high half. Lengths are those of keys, distances and
+//! leaves in 16 bits each from the lowest on, with the corner above them. A list line sets every place of a vertex table and a level
+//! table of 1,024 to 0, and lends as many as C says, 16 bits each; a listed line tells what then stands at a place of both. A lookup
+//! that answers nothing has key and distance 0.
+
+use super::Sample;
+use crate::inputs::{first_cell, last_cell};
+use crate::integer;
+use crate::model::reading::{slab, Lookup, Reading, Tables};
+use crate::model::{level, vertex};
+
+const PUT: u8 = 0x10;
+const SOUND: u8 = 0x11;
+const LOOK_UP: u8 = 0x12;
+const LIST: u8 = 0x13;
+const LISTED: u8 = 0x14;
+const DUAL_CELL: u8 = 0x15;
+const SLAB: u8 = 0x16;
+
+/// The places of the vertex table and of the level table, lent or not.
+const IN_ALL: usize = 1024;
+
+const MIDDLE: u64 = 15 << 60;
+
+/// A sound tree in which these cells are split. Each node has another distance: odd ones first, then small whole numbers.
+fn tree(split: &[u64]) -> Tables {
+    let mut keys: Vec<u64> = split.iter().flat_map(|key| (0..8).map(move |child| 8 * key + child)).collect();
+    keys.push(1);
+    keys.sort_unstable();
+    let odd = [0x7fc0_0000, 0x8000_0000, 0, 1, 0x7f80_0000, 0xff80_0000, 0x8000_0001, 0x7f7f_ffff];
+    let distance = |place: usize| odd.get(place).copied().unwrap_or_else(|| (place as f32 - 40.5).to_bits());
+    let leaves = keys.iter().copied().filter(|key| !split.contains(key)).collect();
+    Tables { distances: (0..keys.len()).map(distance).collect(), keys, leaves }
+}
+
+/// The cells above a cell, the root first.
+fn above(end: u64) -> Vec<u64> {
+    (1..=level(end)).rev().map(|above| end >> (3 * above)).collect()
+}
+
+/// The tree in the tables, and the lengths that are lent of it.
+struct Put {
+    lengths: [usize; 3],
+    tables: Tables,
+}
+
+impl Put {
+    /// A tree that is lent whole.
+    fn whole(tables: Tables) -> Self {
+        Put { lengths: [tables.keys.len(), tables.distances.len(), tables.leaves.len()], tables }
+    }
+
+    /// What is lent.
+    fn lent(&self) -> Tables {
+        let [keys, distances, leaves] = self.lengths;
+        Tables {
+            keys: self.tables.keys[..keys].to_vec(),
+            distances: self.tables.distances[..distances].to_vec(),
+            leaves: self.tables.leaves[..leaves].to_vec(),
+        }
+    }
+
+    fn reading(&self) -> Reading {
+        Reading::of(&self.lent())
+    }
+
+    fn packed(&self) -> u64 {
+        self.lengths.iter().rev().fold(0, |word, &length| word << 16 | length as u64)
+    }
+
+    /// The same places, lent in other lengths: each more or less by so many.
+    fn of_lengths(&self, more: [isize; 3]) -> Self {
+        let mut tables = self.tables.clone();
+        // What was never put is 0, and so the sample asks for no place that an earlier tree has written.
+        tables.keys.push(0);
+        tables.distances.push(0);
+        tables.leaves.push(0);
+        let mut lengths = self.lengths;
+        for (length, more) in lengths.iter_mut().zip(more) {
+            *length = (*length as isize + more) as usize;
+        }
+        Put { lengths, tables }
+    }
+}
+
+impl Sample {
+    fn put_at(&mut self, put: &Put, place: usize) {
+        let at = |table: &[u64]| table.get(place).copied().unwrap_or(0);
+        let distance = put.tables.distances.get(place).copied().unwrap_or(0);
+        let a = place as u64 | (distance as u64) << 32;
+        self.line(PUT, [a, at(&put.tables.keys), at(&put.tables.leaves)], Ok([0; 3]));
+    }
+
+    /// Writes a tree, and zeros behind it.
+    fn put(&mut self, tables: Tables) -> Put {
+        let put = Put::whole(tables);
+        for place in 0..=put.lengths[0].max(put.lengths[2]) {
+            self.put_at(&put, place);
+        }
+        put
+    }
+
+    /// Changes one place, and hands on what then is lent.
+    fn change(&mut self, put: &Put, place: usize, change: impl Fn(&mut Tables)) -> Put {
+        let mut changed = Put { lengths: put.lengths, tables: put.tables.clone() };
+        change(&mut changed.tables);
+        self.put_at(&changed, place);
+        changed
+    }
+
+    fn sound(&mut self, put: &Put) -> bool {
+        let sound = put.lent().is_sound();
+        self.line(SOUND, [put.packed(), 0, 0], Ok([sound as u64, 0, 0]));
+        sound
+    }
+
+    fn look_up(&mut self, put: &Put, key: u64) {
+        let answer = put.reading().look_up(key).map(|answer| match answer {
+            Lookup::Found { key, distance, tried } => [key, distance as u64, tried as u64],
+            Lookup::Nothing { tried } => [0, 0, tried as u64],
+        });
+        self.line(LOOK_UP, [put.packed(), key, 0], answer);
+    }
+
+    /// A list, and what stands at some places after it.
+    fn list(&mut self, put: &Put, start: usize, lengths: [usize; 2], places: impl Iterator<Item = usize>) -> bool {
+        let (mut vertices, mut levels) = (vec![0; lengths[0]], vec![0; lengths[1]]);
+        let answer = put.reading().list(start, &mut vertices, &mut levels);
+        if let Ok(count) = answer {
+            let tables = put.lent();
+            let text = integer::compute_primal_vertices(&tables.keys, &tables.leaves);
+            let listed = vertices[start..start + count].iter().zip(&levels[start..]);
+            assert!(listed.map(|(&vertex, &level)| (vertex, level as usize)).eq(text), "the text and the model differ");
+        }
+        let both = lengths[0] as u64 | (lengths[1] as u64) << 16;
+        self.line(LIST, [put.packed(), start as u64, both], answer.map(|count| [count as u64, 0, 0]));
+        for place in places {
+            assert!(place < IN_ALL);
+            let (vertex, level) = (vertices.get(place).copied().unwrap_or(0), levels.get(place).copied().unwrap_or(0));
+            self.line(LISTED, [place as u64, 0, 0], Ok([vertex, level as u64, 0]));
+        }
+        answer.is_ok()
+    }
+
+    fn dual_cell(&mut self, put: &Put, vertex: u64, level: u32, corners: impl Iterator<Item = usize>) -> bool {
+        let answer = put.reading().dual_cell(vertex, level);
+        if let Ok(cell) = answer {
+            let tables = put.lent();
+            let text = integer::search_eight_nodes(&tables.keys, &tables.leaves, &[(vertex, level as usize)]);
+            let keys = text[0].map(|place| tables.keys[place.expect("the text finds a node")]);
+            assert_eq!(cell.keys, keys, "the text and the model differ");
+        }
+        for corner in corners {
+            let eight = answer.map(|cell| [cell.keys[corner], cell.distances[corner] as u64, cell.tried as u64]);
+            self.line(DUAL_CELL, [put.packed() | (corner as u64) << 48, vertex, level as u64], eight);
+        }
+        answer.is_ok()
+    }
+
+    fn slab(&mut self, vertex: u64, level: u32, exponent: u32) {
+        let answer = slab(vertex, level, exponent).map(|slab| [slab as u64, 0, 0]);
+        self.line(SLAB, [vertex, level as u64, exponent as u64], answer);
+    }
+
+    pub(super) fn reading(&mut self) {
+        self.least_trees();
+        self.example_of_81();
+        self.deepest_tree();
+        self.slabs();
+    }
+
+    /// The root alone, which has no vertex and no dual cell, and nine nodes, which no build makes.
+    fn least_trees(&mut self) {
+        let root = self.put(tree(&[]));
+        assert!(self.sound(&root));
+        for more in [[-1, 0, 0], [0, -1, 0], [0, 0, -1], [-1, -1, -1], [-1, -1, 0], [1, 1, 0], [1, 1, 1], [0, 0, 1]] {
+            let other = root.of_lengths(more);
+            assert!(!self.sound(&other));
+            self.look_up(&other, 16);
+            self.list(&other, 9, [0, 0], [].into_iter());
+            self.dual_cell(&other, MIDDLE, 0, [0].into_iter());
+        }
+        for key in [1, 8, 64, first_cell(21), last_cell(21), 0, 16] {
+            self.look_up(&root, key);
+        }
+        assert!(self.list(&root, 0, [0, 0], 0..1) && self.list(&root, 2, [2, 3], 1..4));
+        assert!(!self.list(&root, 3, [2, 3], [].into_iter()) && !self.list(&root, usize::MAX, [9, 9], [].into_iter()));
+        assert!(!self.dual_cell(&root, MIDDLE, 1, [0, 7].into_iter()));
+
+        let nine = self.put(tree(&[1]));
+        assert!(self.sound(&nine));
+        for key in [1, 8, 15, 64, 127, 9 << 60, 16] {
+            self.look_up(&nine, key);
+        }
+        for (start, lengths, fits) in
+            [(0, [1, 1], true), (1, [2, 3], true), (1, [1, 2], false), (1, [2, 1], false), (0, [0, 0], false)]
+        {
+            assert_eq!(self.list(&nine, start, lengths, 0..3), fits);
+        }
+        assert!(self.dual_cell(&nine, MIDDLE, 1, 0..8) && self.dual_cell(&nine, MIDDLE, 20, [0, 7].into_iter()));
+        assert!(!self.dual_cell(&nine, MIDDLE, 21, [0].into_iter()) && !self.dual_cell(&nine, 1 << 63, 1, [0].into_iter()));
+        // Each condition of a sound tree at one place.
+        for (place, key, leaf) in
+            [(0, 0, 8), (0, 2, 8), (1, 7, 8), (1, 8, 1), (1, 8, 10), (3, 9, 10), (3, 11, 10), (8, 16, 15), (8, 120, 15)]
+        {
+            let changed = self.change(&nine, place, |tables| {
+                tables.keys[place] = key;
+                if place < 8 {
+                    tables.leaves[place] = leaf;
+                }
+            });
+            assert!(!self.sound(&changed));
+            self.put_at(&nine, place);
+        }
+        assert!(self.sound(&nine));
+    }
+
+    /// Document 01's tree of 81 nodes, with its dual cells.
+    fn example_of_81(&mut self) {
+        let put = self.put(tree(&[1, 8, 9, 10, 11, 12, 13, 14, 15, 64]));
+        assert!(self.sound(&put));
+        let corner = |key, which| vertex(key, level(key), which).expect("a cell key with its own level");
+        assert!(self.list(&put, 0, [34, 34], 0..35) && self.list(&put, 5, [39, 50], [0, 4, 5, 38, 39, 49].into_iter()));
+        for (start, lengths) in [(0, [33, 34]), (0, [34, 33]), (6, [39, 50]), (6, [50, 39]), (usize::MAX - 33, [34, 34])] {
+            assert!(!self.list(&put, start, lengths, [0, 33].into_iter()));
+        }
+        for (vertex, level) in [(corner(519, 7), 3), (corner(512, 7), 3), (MIDDLE, 1), (MIDDLE, 2), (corner(65, 6), 2)] {
+            assert!(self.dual_cell(&put, vertex, level, 0..8));
+        }
+        assert!(!self.dual_cell(&put, corner(512, 7), 2, [0, 7].into_iter()));
+        for key in [64, 512, 519, 65, 520, 8 * 519 + 3, 1, 9, 127, last_cell(20), first_cell(20), 128] {
+            self.look_up(&put, key);
+        }
+        for more in [[0, 0, -1], [-1, -1, -1], [-8, -8, -8], [0, -1, 0], [1, 1, 1]] {
+            let other = put.of_lengths(more);
+            assert!(!self.sound(&other));
+            self.look_up(&other, 64);
+        }
+    }
+
+    /// A path down to level 15; one level more isn't sound.
+    fn deepest_tree(&mut self) {
+        let end = first_cell(15) + 0o1_2345_6701_2345;
+        let put = self.put(tree(&above(end)));
+        assert!(self.sound(&put));
+        for key in [end, end ^ 1, 8 * end, end << 18 | 0o777, end / 8, end / 64 ^ 3, last_cell(21), first_cell(21), end << 19] {
+            self.look_up(&put, key);
+        }
+        let listed = put.reading().vertices().expect("a sound tree");
+        assert!(self.list(&put, 1, [listed.len() + 1, listed.len() + 2], (0..listed.len() + 3).step_by(7)));
+        for &(vertex, level) in [listed.first(), listed.last()].into_iter().flatten() {
+            assert!(self.dual_cell(&put, vertex, level, [0, 3, 7].into_iter()));
+            self.dual_cell(&put, vertex, 20, [5].into_iter());
+        }
+        let mut split = above(end);
+        split.push(end);
+        let deeper = Put::whole(tree(&split));
+        for place in 0..=deeper.lengths[0] {
+            let at = |table: &[u64]| table.get(place).copied();
+            if at(&deeper.tables.keys) != at(&put.tables.keys) || at(&deeper.tables.leaves) != at(&put.tables.leaves) {
+                self.put_at(&deeper, place);
+            }
+        }
+        assert!(!self.sound(&deeper));
+        self.look_up(&deeper, end);
+    }
+
+    fn slabs(&mut self) {
+        let highest = last_cell(20) << 3;
+        for (vertex, level) in [(MIDDLE, 1), (highest, 20), (vertex(71, 2, 0).expect("a cell"), 2), (MIDDLE, 20)] {
+            for exponent in [0, 1, 2, 7, 14, 15, 16, u32::MAX] {
+                self.slab(vertex, level, exponent);
+            }
+        }
+        for (vertex, level) in [(MIDDLE, 0), (MIDDLE, 21), (1 << 63, 1), (highest, 19), (0, 1)] {
+            self.slab(vertex, level, 15);
+            self.slab(vertex, level, 16);
+        }
+    }
+}
