@@ -1,11 +1,13 @@
 -- The user's demand 3 on finished builds: specs/Reading.antt, proved. Assumes nothing.
 use Prim.Native.Nat.{ℕ, zero, suc, _+_, _-_, _/_, _^_, _≤_, _<_}
-use mathlib.Core.Path.{_≡_, refl, sym, _∙_, ap, ap₂, subst}
-use mathlib.Core.Bool.{true}
-use mathlib.Core.List.{List, [], _∷_}
+use mathlib.Core.Path.{_≡_, refl, sym, _∙_, ap, ap₂, subst, subst₂}
+use mathlib.Core.Bool.{true, true≢false}
+use mathlib.Core.Logic.{⊎-elim}
+use mathlib.Core.List.{List, [], _∷_, _++_}
 use native.Mathlib.Omega.{arith}
 use lib.Ieee.{Float, nan}
-use lib.ListN.{length, getD}
+use lib.ListN.{length, getD, take, drop}
+use lib.Seq.{take-at, drop-at, length-take-le, getD-take, getD-drop}
 use Rattle.morton.specs.Level.{deepest, level, Cell}
 use Rattle.morton.specs.Vertex.{isInner, sideOf}
 use Rattle.morton.proofs.Levels.{cell-level}
@@ -15,17 +17,24 @@ use Rattle.geometry.specs.Grid.{liesIn, Covers}
 use Rattle.geometry.specs.Corner.{StrictlyInside}
 use Rattle.geometry.specs.Listing.{Listed}
 use Rattle.tree.proofs.Lists.{in-cast, ascending-place}
-use Rattle.geometry.proofs.Place.{OnGrid, side, side-cell, side-on-grid, corner-grid, grid-below, inner-level}
+use Rattle.morton.proofs.Sides.{vertex-inner}
+use Rattle.morton.proofs.Vertices.{inner-level}
+use Rattle.geometry.proofs.Place.{OnGrid, side, side-cell, side-on-grid, corner-grid, grid-below, inner-level as grid-level}
 use Rattle.geometry.proofs.Vertex.{corner-vertex}
-use Rattle.geometry.proofs.Shape.{Shape, sound-shape-to}
+use Rattle.geometry.proofs.Shape.{Shape, root-level, sound-shape-to}
 use Rattle.geometry.proofs.Lookup.{root-leaf, found-leaf}
 use Rattle.geometry.proofs.Cover.{shape-covers}
 use Rattle.geometry.proofs.Around.{Entry, entry}
 use Rattle.geometry.proofs.Listing.{giver, listed-strict, listed-corner, listed-deepest}
 use Rattle.build.specs.Build.{finest}
-use Rattle.dual.specs.Dual.{sum, DualCell, keyIn, distanceIn, climbAt, Around}
+use Rattle.dual.specs.declared.Dual.{Dual}
+use Rattle.dual.specs.declared.Tried.{Tried}
+use Rattle.dual.specs.declared.Tried.the-variants as tried
+use Rattle.dual.specs.declared.Tried.the-variants.{Keys}
+use Rattle.dual.specs.Listing.{Lists, written, Wrote}
+use Rattle.dual.specs.Dual.{DualSays, sum, DualCell, keyIn, distanceIn, climbAt, Around}
 use Rattle.dual.proofs.Filling.{around-dual}
-use Rattle.demands.specs.Reading.{Once, LeafCorner, ListsCorners, HoldsAlone, Reading, OfSoundTrees, treeAfter, OfFinishedBuilds}
+use Rattle.demands.specs.Reading.{Once, LeafCorner, ListsCorners, HoldsAlone, LeafCell, part, Reading, OfSoundTrees, treeAfter, OfFinishedBuilds}
 use Rattle.demands.proofs.Soundness.{finished-sound, leaves-within, finest-within}
 
 -- ---- the list
@@ -84,7 +93,7 @@ module _ (D : ℕ) (t : Tree) (deep : D ≤ deepest) (s : Shape D (t .keys) (t .
       go zero e c =
           let o : k ≡ 1 = omega (arith, c .low, c .high) in
           let q : some .0 ≡ 1 = root-leaf D (t .keys) (t .leaves) s (some .0) (in-cast (sym o) leaf) (some .1) in
-          absurd (omega (arith, inner-level L v inner grid, some .2, ap level q, ap level o))
+          absurd (omega (arith, grid-level L v inner grid, some .2, ap level q, ap level o))
       go (suc l) e c = omega arith
 
   holds-alone : Entry D L v i (t .leaves) → {key : ℕ} {distance : Float} {tried : ℕ} → Deepest t (sideOf L v i) key distance tried
@@ -142,6 +151,29 @@ module _ (ks : List ℕ) (ds : List Float) (q : ℕ) where
         count = refl;
       }
 
+-- ---- what stands in the tables
+
+part-written : (table xs : List ℕ) (start n : ℕ) → n ≡ length xs → start + n ≤ length table → part start n (written table start xs) ≡ xs
+part-written table xs start n e h =
+    ap (take n) (drop-at (take start table) (xs ++ drop (start + length xs) table) start (length-take-le start table (omega arith)))
+    ∙ take-at xs (drop (start + length xs) table) n (sym e)
+
+part-at : (table : List ℕ) (start n j : ℕ) → j < n → getD (part start n table) j 0 ≡ getD table (start + j) 0
+part-at table start n j h = getD-take n (drop start table) j 0 h ∙ getD-drop start table j 0
+
+module _ (t : Tree) (start n : ℕ) (was left : Lists) (w : Wrote (t .leaves) start n was left) where
+  vertices-part : part start n (left .vertices) ≡ w .vs
+  vertices-part = ap (part start n) (w .vertices-are) ∙ part-written (was .vertices) (w .vs) start n (w .count) (w .room .vertices)
+
+  levels-part : part start n (left .levels) ≡ w .ls
+  levels-part = ap (part start n) (w .levels-are) ∙ part-written (was .levels) (w .ls) start n (w .count ∙ sym (w .listed .paired)) (w .room .levels)
+
+  vertices-at : (j : ℕ) → j < n → getD (left .vertices) (start + j) 0 ≡ getD (w .vs) j 0
+  vertices-at j h = sym (part-at (left .vertices) start n j h) ∙ ap (λ (xs : List ℕ). getD xs j 0) vertices-part
+
+  levels-at : (j : ℕ) → j < n → getD (left .levels) (start + j) 0 ≡ getD (w .ls) j 0
+  levels-at j h = sym (part-at (left .levels) start n j h) ∙ ap (λ (xs : List ℕ). getD xs j 0) levels-part
+
 -- ---- all of it
 
 module _ (t : Tree) (sound : Sound t) (D : ℕ) (deep : D ≤ deepest) (leaf : (k : ℕ) → In k (t .leaves) → level k ≤ D) where
@@ -169,18 +201,56 @@ module _ (t : Tree) (sound : Sound t) (D : ℕ) (deep : D ≤ deepest) (leaf : (
       holds-alone D t deep s L v i low h inner grid (g .leaf, node, g .at-level)
       (entry D L v i (t .leaves) deep low h leaves-cover inner grid (listed-deepest (t .leaves) vs ls shallow list j l)) (c .entry i h)
 
+  -- a listed vertex is inner at its level, and so the tree isn't the root alone
+  listed-inner : (vs ls : List ℕ) → Listed (t .leaves) vs ls → (j : ℕ) → j < length vs → isInner (getD ls j 0) (getD vs j 0) ≡ true
+  listed-inner vs ls list j l =
+      let f = list .from j l in
+      let g = f .1 in
+      rw (← (g .gives), ← (g .at-level)) (vertex-inner (level (g .leaf)) (g .leaf) (g .corner) (λ z. omega (arith, f .0, g .gives)))
+
+  listed-more : (vs ls : List ℕ) → Listed (t .leaves) vs ls → (j : ℕ) → j < length vs → 1 < length (t .keys)
+  listed-more vs ls list j l =
+      let g = giver (t .leaves) vs ls shallow list j l in
+      let node : In (g .leaf) (t .keys) = s .here (g .leaf) (g .is-leaf) in
+      let deep : 1 ≤ level (g .leaf) = omega (arith, g .at-level, inner-level (getD ls j 0) (getD vs j 0) (listed-inner vs ls list j l)) in
+      let other : node .place ≡ 0 → ⊥ = λ z.
+      let one : g .leaf ≡ 1 = sym (node .here) ∙ ap (λ (x : ℕ). getD (t .keys) x 0) z ∙ sound .first .here in
+      omega (arith, ap level one, root-level) in
+      omega (arith, node .inside, other)
+
+  leaf-cell : (vs ls : List ℕ) → Listed (t .leaves) vs ls → (j : ℕ) → j < length vs → (r : Dual)
+      → DualSays t (getD ls j 0) (getD vs j 0) (r .keys) (r .distances) (r .tried) → LeafCell D t (getD vs j 0) r
+  leaf-cell vs ls list j l r = go (r .tried) refl
+    where
+      go : (a : Tried) → r .tried ≡ a → DualSays t (getD ls j 0) (getD vs j 0) (r .keys) (r .distances) a → LeafCell D t (getD vs j 0) r
+      go (Keys n) e (_, _, _, c) =
+          record {
+            answered = λ k f. let z : _≡_ {A = ℕ} 0 1 = cc in omega arith;
+            entry = dual-read vs ls list j l (r .keys) (r .distances) n c;
+          }
+      go (tried.Refused k) e (_, _, why) =
+          absurd (⊎-elim (λ x. x .0 sound)
+          (λ x. ⊎-elim (λ f. true≢false (sym (listed-inner vs ls list j l) ∙ f)) (λ alone. omega (arith, listed-more vs ls list j l)) (x .1))
+          why)
+
   found-cell : 1 < length (t .keys) → (v L : ℕ) → v < 2 ^ 64 → isInner L v ≡ true
       → (keys : List ℕ) × (distances : List Float) × (tried : ℕ) × DualCell t L v keys distances tried
-  found-cell more v L small e =
-      let q : ℕ = v / 8 ^ (deepest - L) in
-      (_, _, _, around-dual t sound L v small e more _ _ _ (found-around (t .keys) (t .distances) (v / 8 ^ (deepest - L))))
+  found-cell more v L small e = (_, _, _, around-dual t sound L v small e more _ _ _ (found-around (t .keys) (t .distances) (v / 8 ^ (deepest - L))))
 
   reading : Reading D t
   reading =
       record {
         covers = leaves-cover;
-        list = λ vs ls list. lists-corners (t .leaves) vs ls shallow list;
-        dual = dual-read;
+        list = λ start n was left (_, w).
+            subst₂ (ListsCorners (t .leaves)) (sym (vertices-part t start n was left w)) (sym (levels-part t start n was left w))
+            (lists-corners (t .leaves) (w .vs) (w .ls) shallow (w .listed));
+        room = λ start k was left (_, why). ⊎-elim (λ x. absurd (x .0 sound)) (λ x. x .2) why;
+        dual = λ start n was left (_, w) j h r d.
+            let l : j < length (w .vs) = omega (arith, w .count) in
+            let v : getD (left .vertices) (start + j) 0 ≡ getD (w .vs) j 0 = vertices-at t start n was left w j h in
+            subst (λ (x : ℕ). LeafCell D t x r) (sym v)
+            (leaf-cell (w .vs) (w .ls) (w .listed) j l r
+            (subst₂ (λ (L x : ℕ). DualSays t L x (r .keys) (r .distances) (r .tried)) (levels-at t start n was left w j h) v d));
         found = found-cell;
       }
 

@@ -1,11 +1,11 @@
 -- Demand 3 of the user, the half that speaks of a finished build. proofs/Reading.antt proves each of these, for a finished build and for any sound tree:
 -- a tree that was read from a card is sound and was never built here.
-use Prim.Native.Nat.{ℕ, _^_, _≤_, _<_}
+use Prim.Native.Nat.{ℕ, _+_, _^_, _≤_, _<_}
 use mathlib.Core.Path.{_≡_}
 use mathlib.Core.Bool.{true}
 use mathlib.Core.List.{List}
 use lib.Ieee.{Float, nan}
-use lib.ListN.{length, getD, take}
+use lib.ListN.{length, getD, take, drop}
 use Rattle.morton.specs.Level.{deepest, level}
 use Rattle.morton.specs.Vertex.{isInner, sideOf}
 use Rattle.build.specs.declared.State.{State}
@@ -13,8 +13,11 @@ use Rattle.build.specs.Build.{Tables, finest}
 use Rattle.tree.specs.Tree.{Tree, StandsAt, In, Ascending, Sound}
 use Rattle.geometry.specs.Grid.{liesIn, Covers}
 use Rattle.geometry.specs.Corner.{Corner, StrictlyInside}
-use Rattle.geometry.specs.Listing.{Listed}
-use Rattle.dual.specs.Dual.{DualCell}
+use Rattle.dual.specs.declared.Dual.{Dual}
+use Rattle.dual.specs.declared.ListAnswer.the-variants.{Count, Refused}
+use Rattle.dual.specs.declared.Tried.the-variants as tried
+use Rattle.dual.specs.Dual.{DualCell, DualSays}
+use Rattle.dual.specs.Listing.{Lists, ListSays}
 use Rattle.demands.specs.Run.{Run, nodeKeys, leafKeys}
 
 -- v stands in the list at one place.
@@ -52,17 +55,29 @@ pub record HoldsAlone (D : ℕ) (t : Tree) (f k : ℕ) (d : Float) : Type 0 wher
   pub stands : StandsAt (t .keys) place k
   pub its-distance : d ≡ getD (t .distances) place nan
 
--- What is read from a tree whose leaves lie over the finest grid of level D.
+-- The dual cell r of the vertex v: entry i is the one leaf that holds the finest cell on side i, with that leaf's distance. It isn't refused.
+pub record LeafCell (D : ℕ) (t : Tree) (v : ℕ) (r : Dual) : Type 0 where
+  pub answered : (k : ℕ) → r .tried ≡ tried.Refused k → ⊥
+  pub entry : (i : ℕ) → i < 8 → HoldsAlone D t (sideOf D v i) (getD (r .keys) i 0) (getD (r .distances) i nan)
+
+-- The n places of a table from the start place on.
+abbrev pub part : ℕ → ℕ → List ℕ → List ℕ
+part start n table = take n (drop start table)
+
+-- What is read from a tree whose leaves lie over the finest grid of level D. `ListSays` and `DualSays` are what the calls promise to answer and to leave.
 pub record Reading (D : ℕ) (t : Tree) : Type 0 where
   -- Each cell of the finest grid lies in exactly one leaf, and the leaves' volumes add up to the cube.
   pub covers : Covers D (t .leaves)
-  -- Every leaf corner strictly inside the cube is listed once, at the deepest level of the leaves that have that corner; nothing else is listed.
-  pub list : (vertices levels : List ℕ) → Listed (t .leaves) vertices levels → ListsCorners (t .leaves) vertices levels
-  -- Entry i of its dual cell is the one leaf that holds the finest cell on side i, with that leaf's distance.
-  pub dual : (vertices levels : List ℕ) → Listed (t .leaves) vertices levels
-      → (j : ℕ) → j < length vertices
-      → (keys : List ℕ) (distances : List Float) (tried : ℕ) → DualCell t (getD levels j 0) (getD vertices j 0) keys distances tried
-      → (i : ℕ) → i < 8 → HoldsAlone D t (sideOf D (getD vertices j 0) i) (getD keys i 0) (getD distances i nan)
+  -- Where the list has room, every leaf corner strictly inside the cube is listed once, at the deepest level of the leaves that have that corner;
+  -- nothing else is listed. It is refused for want of room only.
+  pub list : (start n : ℕ) (was left : Lists) → ListSays t start was left (Count n)
+      → ListsCorners (t .leaves) (part start n (left .vertices)) (part start n (left .levels))
+  pub room : (start k : ℕ) (was left : Lists) → ListSays t start was left (Refused k) → k ≡ 12
+  -- Entry i of the dual cell of each listed vertex is the one leaf that holds the finest cell on side i, with that leaf's distance.
+  pub dual : (start n : ℕ) (was left : Lists) → ListSays t start was left (Count n)
+      → (j : ℕ) → j < n → (r : Dual)
+      → DualSays t (getD (left .levels) (start + j) 0) (getD (left .vertices) (start + j) 0) (r .keys) (r .distances) (r .tried)
+      → LeafCell D t (getD (left .vertices) (start + j) 0) r
   -- The dual cell of any inner vertex, a number of 64 bits, at any level is found, unless the tree is the root alone.
   pub found : 1 < length (t .keys) → (v L : ℕ) → v < 2 ^ 64 → isInner L v ≡ true
       → (keys : List ℕ) × (distances : List Float) × (tried : ℕ) × DualCell t L v keys distances tried
