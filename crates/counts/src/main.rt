@@ -26,6 +26,7 @@ enum Step {
     Ended(End),
 }
 
+// What is read next: a distance, or nothing where the input ends before it is whole.
 enum Given {
     Distance(f32),
     Nothing,
@@ -37,6 +38,7 @@ fn wide(b: u8) -> u32
     b as u32
 }
 
+// The number of four bytes, the lowest first.
 fn little_endian(bytes: [u8; 4]) -> u32
     ensures { λ r. ⌜ r ≡ littleEndian bytes ⌝ }
 {
@@ -166,6 +168,7 @@ fn print_counts(nodes: usize, leaves: usize, vertices: usize) {
     io::write_all(STDOUT_FILENO, b"\n");
 }
 
+// The counts of a build that is finished.
 fn print_tree(s: State, keys: &[u64], distances: &[f32], leaves: &[u64])
     requires { ⌜ Built s (now keys) (now distances) (now leaves) ⌝ }
 {
@@ -176,6 +179,7 @@ fn print_tree(s: State, keys: &[u64], distances: &[f32], leaves: &[u64])
     }
 }
 
+// Builds a tree and prints its counts, or why there are none.
 fn count(bound: u32) {
     let mut keys = [0u64; 1024];
     let mut distances = [0.0f32; 1024];

@@ -1,9 +1,13 @@
 // Document 01's examples that are run and not proved, a line for each: what is given, and whether it gives what the document says.
 use build::Answer;
+use dual::ListAnswer;
+use dual::Tried;
 use libc::STDOUT_FILENO;
 use morton::CentreAnswer;
 use morton::Key;
+use morton::KeyAnswer;
 use morton::SizeAnswer;
+use tree::Lookup;
 
 fn say(example: &[u8], holds: bool) {
     io::write_all(STDOUT_FILENO, example);
@@ -112,11 +116,12 @@ fn built(bound: u32, field: Field, queue: &mut [u64]) -> Trial {
     run(bound, field, &mut keys, &mut distances, &mut leaves, queue)
 }
 
+// A finished build was given a distance for each node.
 fn is_finished(t: Trial, nodes: usize, leaves: usize) -> bool {
     let answer = t.answer;
     match answer {
         Answer::Ask(_, _) => false,
-        Answer::Finished(s) => s.nodes == nodes && s.leaves == leaves,
+        Answer::Finished(s) => s.nodes == nodes && s.leaves == leaves && t.given == nodes as u64,
         Answer::Refused(_) => false,
     }
 }
@@ -151,6 +156,138 @@ fn is_refused_with_63() -> bool {
     is_refused(built(2, whole, &mut queue), 8, 9)
 }
 
+// ---- reading a finished tree
+
+fn lists(keys: &[u64], distances: &[f32], leaves: &[u64], count: usize) -> bool {
+    let mut vertices = [0u64; 100];
+    let mut levels = [0u8; 100];
+    let answer = dual::list(keys, distances, leaves, 0, &mut vertices, &mut levels);
+    match answer {
+        ListAnswer::Count(n) => n == count,
+        ListAnswer::Refused(_) => false,
+    }
+}
+
+// The same of the tree that a build makes, which fills the tables.
+fn grows(
+    bound: u32,
+    field: Field,
+    keys: &mut [u64],
+    distances: &mut [f32],
+    leaves: &mut [u64],
+    count: usize,
+) -> bool {
+    let mut queue = [0u64; 100];
+    let t = run(bound, field, keys, distances, leaves, &mut queue);
+    if is_finished(t, keys.len(), leaves.len()) {
+        lists(keys, distances, leaves, count)
+    } else {
+        false
+    }
+}
+
+fn finds(
+    keys: &[u64],
+    distances: &[f32],
+    leaves: &[u64],
+    key: u64,
+    deepest: u64,
+    tries: u32,
+) -> bool {
+    let answer = tree::look_up(keys, distances, leaves, key);
+    match answer {
+        Lookup::Found {
+            key: k,
+            distance: _,
+            tried: n,
+        } => k == deepest && n == tries,
+        Lookup::Nothing { tried: _ } => false,
+        Lookup::Refused(_) => false,
+    }
+}
+
+// The vertex at corner 7 of a cell of level 3; 0, which is no vertex, where there is none.
+fn far_corner(key: u64) -> u64 {
+    let answer = Key { code: key }.vertex(3, 7);
+    match answer {
+        KeyAnswer::Is(vertex) => vertex.code,
+        KeyAnswer::Refused(_) => 0,
+    }
+}
+
+fn same_eight(found: [u64; 8], eight: [u64; 8]) -> bool {
+    let mut i = 0;
+    while i < 8 {
+        if found[i] != eight[i] {
+            return false;
+        }
+        i += 1;
+    }
+    true
+}
+
+// Whether the dual cell of that corner has these nodes.
+fn meet(
+    keys: &[u64],
+    distances: &[f32],
+    leaves: &[u64],
+    key: u64,
+    eight: [u64; 8],
+    tries: u32,
+) -> bool {
+    let cell = dual::dual_cell(keys, distances, leaves, far_corner(key), 3);
+    let found = cell.keys;
+    let answer = cell.tried;
+    match answer {
+        Tried::Keys(n) => n == tries && same_eight(found, eight),
+        Tried::Refused(_) => false,
+    }
+}
+
+fn say_of_tree(keys: &[u64], distances: &[f32], leaves: &[u64]) {
+    say(b"that tree is sound", tree::sound(keys, distances, leaves));
+    say(
+        b"that tree, key 4152: 519; 2 tried",
+        finds(keys, distances, leaves, 4152, 519, 2),
+    );
+    let outer = [71, 70, 69, 68, 67, 66, 65, 519];
+    say(
+        b"that tree, vertex of 519, corner 7, level 3: 71, 70, 69, 68, 67, 66, 65, 519; 15 tried",
+        meet(keys, distances, leaves, 519, outer, 15),
+    );
+    let inner = [519, 518, 517, 516, 515, 514, 513, 512];
+    say(
+        b"that tree, vertex of 512, corner 7, level 3: 519 down to 512; 8 tried",
+        meet(keys, distances, leaves, 512, inner, 8),
+    );
+}
+
+fn say_of_73() {
+    let mut keys = [0u64; 73];
+    let mut distances = [0.0f32; 73];
+    let mut leaves = [0u64; 64];
+    let whole = Field { key: 1, there: 1.0 };
+    say(
+        b"bound 2, 73 times 1.0: 73 nodes, 64 leaves, 27 vertices",
+        grows(2, whole, &mut keys, &mut distances, &mut leaves, 27),
+    );
+}
+
+fn say_of_81() {
+    let mut keys = [0u64; 81];
+    let mut distances = [0.0f32; 81];
+    let mut leaves = [0u64; 71];
+    let first = Field {
+        key: 64,
+        there: 0.0,
+    };
+    say(
+        b"bound 3, 0.0 for key 64, else 1.0: 81 nodes, 71 leaves, 34 vertices",
+        grows(3, first, &mut keys, &mut distances, &mut leaves, 34),
+    );
+    say_of_tree(&keys, &distances, &leaves);
+}
+
 fn main() {
     say(
         b"centre of 9 is (0.75, 0.25, 0.25)",
@@ -182,8 +319,6 @@ fn main() {
         b"bound 2, queue 63: 8 at the ninth distance",
         is_refused_with_63(),
     );
-    say(
-        b"bound 3, 0.0 for key 64, else 1.0: 81 nodes, 71 leaves",
-        finishes(3, 64, 0.0, 81, 71),
-    );
+    say_of_73();
+    say_of_81();
 }

@@ -1,16 +1,20 @@
-// Replays a fixed sample of the oracle's answers through the key operations and through builds, and counts the lines that agree. The
-// sample is crates/replay/stdin, written by tools/sample: a line has the words OP A B C STATUS X Y Z in hexadecimal, of 2, 16, 16, 16, 2,
-// 16, 16 and 16 digits.
+// Replays a fixed sample of the oracle's answers through the key operations, through builds and through the calls that read a tree, and
+// counts the lines that agree. The sample is crates/replay/stdin, written by tools/sample: a line has the words OP A B C STATUS X Y Z in
+// hexadecimal, of 2, 16, 16, 16, 2, 16, 16 and 16 digits. The lines that read a tree come last.
 use build::Answer;
 use build::Lengths;
 use build::Request;
 use build::State;
+use dual::ListAnswer;
+use dual::SlabAnswer;
+use dual::Tried;
 use libc::STDIN_FILENO;
 use libc::STDOUT_FILENO;
 use morton::CentreAnswer;
 use morton::Key;
 use morton::KeyAnswer;
 use morton::SizeAnswer;
+use tree::Lookup;
 ghost use Prim.Native.Nat.{_+_, _≤_, _<_};
 
 struct Line {
@@ -18,6 +22,7 @@ struct Line {
     op: usize,
     a: u64,
     wide_b: u64,
+    wide_c: u64,
     b: u32,
     c: u32,
     status: u32,
@@ -27,7 +32,7 @@ struct Line {
 }
 
 struct Tally {
-    agree: [u64; 16],
+    agree: [u64; 23],
     differ: u64,
 }
 
@@ -70,6 +75,7 @@ fn parse(text: [u8; 108]) -> Line {
         op: word(text, 0, 2) as usize,
         a: word(text, 3, 16),
         wide_b: word(text, 20, 16),
+        wide_c: word(text, 37, 16),
         b: narrow(word(text, 20, 16)),
         c: narrow(word(text, 37, 16)),
         status: narrow(word(text, 54, 2)),
@@ -88,6 +94,7 @@ fn read_line() -> Line {
             op: 0,
             a: 0,
             wide_b: 0,
+            wide_c: 0,
             b: 0,
             c: 0,
             status: 0,
@@ -370,9 +377,198 @@ fn replay_line(
     }
 }
 
+// ---- reading: `put` lines write a tree into the tables, and the lines after them lend the first places, as many as A says.
+
+// Writes one place of a tree's tables, if all have it.
+fn put(l: Line, keys: &mut [u64], distances: &mut [f32], leaves: &mut [u64]) -> bool {
+    let at = l.a as usize % 0x1_0000_0000;
+    if at >= keys.len() {
+        return false;
+    }
+    if at >= distances.len() {
+        return false;
+    }
+    if at >= leaves.len() {
+        return false;
+    }
+    keys[at] = l.wide_b;
+    distances[at] = float(l.a >> 32);
+    leaves[at] = l.wide_c;
+    true
+}
+
+fn same_found(key: u64, distance: f32, tried: u32, l: Line) -> bool {
+    if l.status != 0 {
+        return false;
+    }
+    if key != l.x {
+        return false;
+    }
+    if tried as u64 != l.z {
+        return false;
+    }
+    same_float(distance, float(l.y))
+}
+
+// Nothing has key and distance 0.
+fn same_lookup(answer: Lookup, l: Line) -> bool {
+    match answer {
+        Lookup::Found {
+            key,
+            distance,
+            tried,
+        } => same_found(key, distance, tried, l),
+        Lookup::Nothing { tried } => same_found(0, 0.0, tried, l),
+        Lookup::Refused(number) => number == l.status,
+    }
+}
+
+fn same_count(answer: ListAnswer, l: Line) -> bool {
+    match answer {
+        ListAnswer::Count(n) => {
+            if l.status == 0 {
+                n as u64 == l.x
+            } else {
+                false
+            }
+        }
+        ListAnswer::Refused(number) => number == l.status,
+    }
+}
+
+fn same_slab(answer: SlabAnswer, l: Line) -> bool {
+    match answer {
+        SlabAnswer::Is(n) => {
+            if l.status == 0 {
+                n as u64 == l.x
+            } else {
+                false
+            }
+        }
+        SlabAnswer::Refused(number) => number == l.status,
+    }
+}
+
+fn clear_levels(table: &mut [u8]) {
+    let mut i = 0;
+    while i < table.len() {
+        table[i] = 0;
+        i += 1;
+    }
+}
+
+// A list into tables that are all 0, as long as C says.
+fn list(
+    l: Line,
+    keys: &[u64],
+    distances: &[f32],
+    leaves: &[u64],
+    vertices: &mut [u64],
+    levels: &mut [u8],
+) -> bool {
+    clear_keys(vertices);
+    clear_levels(levels);
+    let a = length_at(l.wide_c, 0, vertices.len());
+    let b = length_at(l.wide_c, 16, levels.len());
+    let answer = dual::list(
+        keys,
+        distances,
+        leaves,
+        l.wide_b as usize,
+        &mut vertices[..a],
+        &mut levels[..b],
+    );
+    same_count(answer, l)
+}
+
+// One corner of a dual cell, which A says above the lengths.
+fn dual_cell(l: Line, keys: &[u64], distances: &[f32], leaves: &[u64]) -> bool {
+    let cell = dual::dual_cell(keys, distances, leaves, l.wide_b, l.c);
+    let nodes = cell.keys;
+    let theirs = cell.distances;
+    let corner = length_at(l.a, 48, 7);
+    let answer = cell.tried;
+    match answer {
+        Tried::Keys(n) => same_found(nodes[corner], theirs[corner], n, l),
+        Tried::Refused(number) => number == l.status,
+    }
+}
+
+// A line that reads what is lent.
+fn read_lent(
+    l: Line,
+    keys: &[u64],
+    distances: &[f32],
+    leaves: &[u64],
+    vertices: &mut [u64],
+    levels: &mut [u8],
+) -> bool {
+    let op = l.op;
+    match op {
+        17 => same_bool(tree::sound(keys, distances, leaves), l.x),
+        18 => same_lookup(tree::look_up(keys, distances, leaves, l.wide_b), l),
+        19 => list(l, keys, distances, leaves, vertices, levels),
+        21 => dual_cell(l, keys, distances, leaves),
+        _ => false,
+    }
+}
+
+fn lend(
+    l: Line,
+    keys: &[u64],
+    distances: &[f32],
+    leaves: &[u64],
+    vertices: &mut [u64],
+    levels: &mut [u8],
+) -> bool {
+    let a = length_at(l.a, 0, keys.len());
+    let b = length_at(l.a, 16, distances.len());
+    let c = length_at(l.a, 32, leaves.len());
+    read_lent(
+        l,
+        &keys[..a],
+        &distances[..b],
+        &leaves[..c],
+        vertices,
+        levels,
+    )
+}
+
+fn level_at(table: &[u8], at: usize) -> u8 {
+    if at < table.len() { table[at] } else { 0 }
+}
+
+fn same_listed(l: Line, vertices: &[u64], levels: &[u8]) -> bool {
+    let at = l.a as usize;
+    if key_at(vertices, at) != l.x {
+        return false;
+    }
+    level_at(levels, at) as u64 == l.y
+}
+
+// One line of reading.
+fn read_tree(
+    l: Line,
+    keys: &mut [u64],
+    distances: &mut [f32],
+    leaves: &mut [u64],
+    vertices: &mut [u64],
+    levels: &mut [u8],
+) -> bool {
+    let op = l.op;
+    match op {
+        16 => put(l, keys, distances, leaves),
+        20 => same_listed(l, vertices, levels),
+        22 => same_slab(dual::slab(l.a, l.b, l.c), l),
+        _ => lend(l, keys, distances, leaves, vertices, levels),
+    }
+}
+
+// ---- the whole sample
+
 fn counted(t: Tally, op: usize, same: bool) -> Tally {
     let mut agree = t.agree;
-    if op < 16 {
+    if op < 23 {
         if same {
             agree[op] = std::num::wrapping_add_u64(agree[op], 1);
             return Tally {
@@ -387,7 +583,7 @@ fn counted(t: Tally, op: usize, same: bool) -> Tally {
     }
 }
 
-fn print_name(op: usize) {
+fn print_key_name(op: usize) {
     match op {
         0 => io::write_all(STDOUT_FILENO, b"level "),
         1 => io::write_all(STDOUT_FILENO, b"is_cell "),
@@ -400,7 +596,13 @@ fn print_name(op: usize) {
         8 => io::write_all(STDOUT_FILENO, b"vertex "),
         9 => io::write_all(STDOUT_FILENO, b"is_inner "),
         10 => io::write_all(STDOUT_FILENO, b"side "),
-        11 => io::write_all(STDOUT_FILENO, b"should_refine "),
+        _ => io::write_all(STDOUT_FILENO, b"should_refine "),
+    }
+    ;
+}
+
+fn print_build_name(op: usize) {
+    match op {
         12 => io::write_all(STDOUT_FILENO, b"start "),
         13 => io::write_all(STDOUT_FILENO, b"distance "),
         14 => io::write_all(STDOUT_FILENO, b"keys at a place "),
@@ -409,49 +611,167 @@ fn print_name(op: usize) {
     ;
 }
 
+fn print_tree_name(op: usize) {
+    match op {
+        16 => io::write_all(STDOUT_FILENO, b"put "),
+        17 => io::write_all(STDOUT_FILENO, b"sound "),
+        18 => io::write_all(STDOUT_FILENO, b"look_up "),
+        19 => io::write_all(STDOUT_FILENO, b"list "),
+        20 => io::write_all(STDOUT_FILENO, b"vertex at a place "),
+        21 => io::write_all(STDOUT_FILENO, b"dual_cell "),
+        _ => io::write_all(STDOUT_FILENO, b"slab "),
+    }
+    ;
+}
+
+fn print_name(op: usize) {
+    if op < 12 {
+        print_key_name(op);
+    } else {
+        if op < 16 {
+            print_build_name(op);
+        } else {
+            print_tree_name(op);
+        }
+    }
+}
+
 fn print_count(n: u64) {
     io::print_decimal(STDOUT_FILENO, n);
     io::write_all(STDOUT_FILENO, b"\n");
 }
 
-fn show(agree: [u64; 16]) {
+fn show(agree: [u64; 23]) {
     let mut op = 0;
-    while op < 16 {
+    while op < 23 {
         print_name(op);
         print_count(agree[op]);
         op += 1;
     }
 }
 
-fn replay(keys: &mut [u64], distances: &mut [f32], leaves: &mut [u64], queue: &mut [u64]) -> Tally {
-    let none = [0u64; 16];
-    let mut t = Tally {
-        agree: none,
-        differ: 0,
+// The counts so far, and the first line that isn't counted yet.
+struct Rest {
+    tally: Tally,
+    next: Line,
+}
+
+fn whole_sample() -> Rest {
+    let none = [0u64; 23];
+    Rest {
+        tally: Tally {
+            agree: none,
+            differ: 0,
+        },
+        next: read_line(),
+    }
+}
+
+fn after(rest: Rest, same: bool) -> Rest {
+    let l = rest.next;
+    Rest {
+        tally: counted(rest.tally, l.op, same),
+        next: read_line(),
+    }
+}
+
+// The state of the build at hand, with what is left.
+struct Progress {
+    state: State,
+    rest: Rest,
+}
+
+fn pass_line(
+    p: Progress,
+    keys: &mut [u64],
+    distances: &mut [f32],
+    leaves: &mut [u64],
+    queue: &mut [u64],
+) -> Progress {
+    let rest = p.rest;
+    let step = replay_line(rest.next, p.state, keys, distances, leaves, queue);
+    let state = step.state;
+    Progress {
+        state,
+        rest: after(rest, step.same),
+    }
+}
+
+fn comes_before_trees(rest: Rest) -> bool {
+    let l = rest.next;
+    if l.whole { l.op < 16 } else { false }
+}
+
+// The lines of keys and builds.
+fn replay(keys: &mut [u64], distances: &mut [f32], leaves: &mut [u64], queue: &mut [u64]) -> Rest {
+    let mut p = Progress {
+        state: no_build(),
+        rest: whole_sample(),
     };
-    let mut s = no_build();
     let mut left: u32 = 100_000;
     while 0 < left {
-        let l = read_line();
-        if l.whole {
-            let step = replay_line(l, s, keys, distances, leaves, queue);
-            s = step.state;
-            let next = counted(t, l.op, step.same);
-            t = next;
+        if comes_before_trees(p.rest) {
+            let next = pass_line(p, keys, distances, leaves, queue);
+            p = next;
             left -= 1;
         } else {
             left = 0;
         }
     }
-    t
+    p.rest
 }
 
-fn main() {
+// The lines that read a tree.
+fn replay_trees(
+    first: Rest,
+    keys: &mut [u64],
+    distances: &mut [f32],
+    leaves: &mut [u64],
+    vertices: &mut [u64],
+    levels: &mut [u8],
+) -> Tally {
+    let mut rest = first;
+    let mut left: u32 = 100_000;
+    while 0 < left {
+        let l = rest.next;
+        if l.whole {
+            let same = read_tree(l, keys, distances, leaves, vertices, levels);
+            let fewer = after(rest, same);
+            rest = fewer;
+            left -= 1;
+        } else {
+            left = 0;
+        }
+    }
+    rest.tally
+}
+
+fn replay_first() -> Rest {
     let mut keys = [0u64; 1024];
     let mut distances = [0.0f32; 1024];
     let mut leaves = [0u64; 1024];
     let mut queue = [0u64; 1024];
-    let t = replay(&mut keys, &mut distances, &mut leaves, &mut queue);
+    replay(&mut keys, &mut distances, &mut leaves, &mut queue)
+}
+
+fn replay_rest(rest: Rest) -> Tally {
+    let mut keys = [0u64; 1024];
+    let mut distances = [0.0f32; 1024];
+    let mut leaves = [0u64; 1024];
+    let mut vertices = [0u64; 1024];
+    let mut levels = [0u8; 1024];
+    replay_trees(
+        rest,
+        &mut keys,
+        &mut distances,
+        &mut leaves,
+        &mut vertices,
+        &mut levels,
+    )
+}
+
+fn main() {
+    let t = replay_rest(replay_first());
     let agree = t.agree;
     show(agree);
     io::write_all(STDOUT_FILENO, b"differ ");

@@ -27,17 +27,6 @@ const SHOULD_REFINE: u8 = 0x0b;
 
 /// The whole file.
 pub fn text() -> String {
-    lines().text
-}
-
-/// The whole file with the calls that read a tree, which the program doesn't replay yet.
-pub fn text_with_reading() -> String {
-    let mut sample = lines();
-    sample.reading();
-    sample.text
-}
-
-fn lines() -> Sample {
     let mut sample = Sample { text: String::new() };
     sample.numbers();
     sample.sums();
@@ -45,7 +34,8 @@ fn lines() -> Sample {
     sample.vertices();
     sample.splits();
     sample.builds();
-    sample
+    sample.reading();
+    sample.text
 }
 
 struct Sample {

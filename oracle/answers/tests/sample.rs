@@ -18,23 +18,3 @@ fn the_file_is_the_generated_one() {
     assert_eq!(file.len(), fresh.len());
     assert!(fresh.lines().all(|line| line.len() == 107));
 }
-
-/// The lines that read a tree come after the others: so many of each call, and of each refusal.
-#[test]
-fn lines_that_read_a_tree() {
-    if !compares_with_text() {
-        return;
-    }
-    let (all, others) = (sample::text_with_reading(), sample::text());
-    let lines: Vec<&str> = all.strip_prefix(&others).expect("the others first").lines().collect();
-    assert!(lines.iter().all(|line| line.len() == 107));
-    let number = |call: &str| lines.iter().filter(|line| line.starts_with(call)).count();
-    let refused = |refusal: &str| lines.iter().filter(|line| &line[54..56] == refusal).count();
-    println!("{} lines: {:?}", lines.len(), ["10", "11", "12", "13", "14", "15", "16"].map(number));
-    for call in ["11", "12", "13", "14", "15", "16"] {
-        assert!(number(call) > 15, "call {call}: {} lines", number(call));
-    }
-    for refusal in ["01", "04", "05", "0b", "0c"] {
-        assert!(refused(refusal) > 3, "refusal {refusal}: {} lines", refused(refusal));
-    }
-}

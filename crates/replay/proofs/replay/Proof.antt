@@ -10,69 +10,54 @@ abbrev Same : {A : Type 0} → List A → List A → Type 0
 Same xs ys = length xs ≡ length ys
 
 abbrev Inv-loop : tie.InvT-loop
-Inv-loop keys₀ distances₀ leaves₀ queue₀ t₀ s₀ left₀ keys distances leaves queue t s left =
+Inv-loop keys₀ distances₀ leaves₀ queue₀ p₀ left₀ keys distances leaves queue p left =
     Same keys keys₀ × Same distances distances₀ × Same leaves leaves₀ × Same queue queue₀
 
 abbrev μ-loop : tie.MeasureT-loop
-μ-loop keys₀ distances₀ leaves₀ queue₀ t₀ s₀ left₀ keys distances leaves queue t s left = left
+μ-loop keys₀ distances₀ leaves₀ queue₀ p₀ left₀ keys distances leaves queue p left = left
 
--- src/main.rt:433:9
 no-build-requires : tie.Need-no-build-requires Inv-loop μ-loop
 no-build-requires c κs = search needs
 
--- src/main.rt:435:5
+whole-sample-requires : tie.Need-whole-sample-requires Inv-loop μ-loop
+whole-sample-requires c κs = search needs
+
 loop-holds : tie.Need-loop-holds Inv-loop μ-loop
 loop-holds c = (refl, refl, refl, refl)
 
--- src/main.rt:436:13
-read-line-requires : tie.Need-read-line-requires Inv-loop μ-loop
-read-line-requires c κs = search needs
+comes-before-trees-requires : tie.Need-comes-before-trees-requires Inv-loop μ-loop
+comes-before-trees-requires c κs = search needs
 
--- src/main.rt:438:17
-replay-line-requires : tie.Need-replay-line-requires Inv-loop μ-loop
-replay-line-requires c κs = search needs
+pass-line-requires : tie.Need-pass-line-requires Inv-loop μ-loop
+pass-line-requires c κs = search needs
 
--- src/main.rt:440:17
-counted-requires : tie.Need-counted-requires Inv-loop μ-loop
-counted-requires c κs = search needs
-
--- src/main.rt:442:13
 sub-left : tie.Need-sub-left Inv-loop μ-loop
 sub-left c = search needs
 
--- src/main.rt:435:5
 loop-less : tie.Need-loop-less Inv-loop μ-loop
 loop-less c = search needs
 
--- src/main.rt:435:5
 loop-again : tie.Need-loop-again Inv-loop μ-loop
 loop-again c = search needs
 
--- src/main.rt:435:5
 loop-less-2 : tie.Need-loop-less-2 Inv-loop μ-loop
 loop-less-2 c = search needs
 
--- src/main.rt:435:5
 loop-again-2 : tie.Need-loop-again-2 Inv-loop μ-loop
 loop-again-2 c = search needs
 
--- src/main.rt:422:1
 same-length : tie.Need-same-length Inv-loop μ-loop
-same-length c = c .before .loop .inv .0
+same-length c = c .before .before .loop .inv .0
 
--- src/main.rt:422:1
 same-length-2 : tie.Need-same-length-2 Inv-loop μ-loop
-same-length-2 c = c .before .loop .inv .1
+same-length-2 c = c .before .before .loop .inv .1
 
--- src/main.rt:422:1
 same-length-3 : tie.Need-same-length-3 Inv-loop μ-loop
-same-length-3 c = c .before .loop .inv .2
+same-length-3 c = c .before .before .loop .inv .2
 
--- src/main.rt:422:1
 same-length-4 : tie.Need-same-length-4 Inv-loop μ-loop
-same-length-4 c = c .before .loop .inv .3
+same-length-4 c = c .before .before .loop .inv .3
 
--- src/main.rt:422:1
 returns : tie.Need-returns Inv-loop μ-loop
 returns c = search needs
 
@@ -83,10 +68,10 @@ replay-spec =
     Inv-loop
     μ-loop
     no-build-requires
+    whole-sample-requires
     loop-holds
-    read-line-requires
-    replay-line-requires
-    counted-requires
+    comes-before-trees-requires
+    pass-line-requires
     sub-left
     loop-less
     loop-again

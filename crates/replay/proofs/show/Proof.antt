@@ -5,10 +5,10 @@ use Rattle.replay.proofs.show.Statement.{statement}
 use Rattle.replay.proofs.show.Tie as tie
 
 abbrev Inv-loop : tie.InvT-loop
-Inv-loop agree op₀ op = op ≤ 16
+Inv-loop agree op₀ op = op ≤ 23
 
 abbrev μ-loop : tie.MeasureT-loop
-μ-loop agree op₀ op = 16 - op
+μ-loop agree op₀ op = 23 - op
 
 loop-holds : tie.Need-loop-holds Inv-loop μ-loop
 loop-holds c = search needs

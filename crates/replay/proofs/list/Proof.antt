@@ -1,0 +1,63 @@
+-- `list` is safe: the lengths are cut to the tables. Assumes nothing.
+use lib.Seq.{length-take-le}
+use mathlib.Core.Path.{sym}
+use borrow.Author.Needs.{needs}
+use Rattle.replay.proofs.list.Statement.{statement}
+use Rattle.replay.proofs.list.Tie as tie
+
+clear-keys-requires : tie.Need-clear-keys-requires
+clear-keys-requires c κs = search needs
+
+clear-levels-requires : tie.Need-clear-levels-requires
+clear-levels-requires c κs = search needs
+
+length-at-requires : tie.Need-length-at-requires
+length-at-requires c κs = search needs
+
+length-at-requires-2 : tie.Need-length-at-requires-2
+length-at-requires-2 c κs = search needs
+
+slice-relend-prefix-list : tie.Need-slice-relend-prefix-list
+slice-relend-prefix-list c = search needs
+
+slice-aggregate-list : tie.Need-slice-aggregate-list
+slice-aggregate-list c = sym (length-take-le _ _ (c .before .before .length-at .ensures))
+
+slice-relend-prefix-list-2 : tie.Need-slice-relend-prefix-list-2
+slice-relend-prefix-list-2 c = search needs
+
+slice-aggregate-list-2 : tie.Need-slice-aggregate-list-2
+slice-aggregate-list-2 c = sym (length-take-le _ _ (c .before .before .length-at2 .ensures))
+
+list-requires : tie.Need-list-requires
+list-requires c κs = search needs
+
+same-count-requires : tie.Need-same-count-requires
+same-count-requires c κs = search needs
+
+same-length : tie.Need-same-length
+same-length c = search needs
+
+same-length-2 : tie.Need-same-length-2
+same-length-2 c = search needs
+
+returns : tie.Need-returns
+returns c = search needs
+
+pub list-spec : {M : Type 1} → statement M
+list-spec =
+    tie.close
+    (tie.spec
+    clear-keys-requires
+    clear-levels-requires
+    length-at-requires
+    length-at-requires-2
+    slice-relend-prefix-list
+    slice-aggregate-list
+    slice-relend-prefix-list-2
+    slice-aggregate-list-2
+    list-requires
+    same-count-requires
+    same-length
+    same-length-2
+    returns)
