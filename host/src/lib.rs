@@ -342,6 +342,23 @@ pub fn distance(state: &mut State, tables: &mut Tables, distance: f32) -> Result
     accepted(number, state.asked().map(|_| Request { key, centre: [x, y, z], half }))
 }
 
+/// Calls a function of the boundary with a tree's three tables first.
+macro_rules! with_tree {
+    ($call:ident, $tree:expr $(, $more:expr)*) => {
+        unsafe {
+            raw::$call(
+                $tree.keys.as_ptr(),
+                $tree.keys.len(),
+                $tree.distances.as_ptr(),
+                $tree.distances.len(),
+                $tree.leaves.as_ptr(),
+                $tree.leaves.len(),
+                $($more),*
+            )
+        }
+    };
+}
+
 /// A finished tree, from a build or from elsewhere. Every call that reads it refuses one that isn't sound.
 #[derive(Clone, Copy, Debug)]
 pub struct Tree<'a> {
@@ -372,36 +389,14 @@ impl Tree<'_> {
     /// Whether the tree is sound: as many keys as distances; keys strictly ascending, first 1, all cell keys of level at most 15;
     /// each other key's parent present; each key with all eight children or none; the leaves exactly those with none, ascending.
     pub fn sound(&self) -> bool {
-        let sound = unsafe {
-            raw::mittenhelm_sound(
-                self.keys.as_ptr(),
-                self.keys.len(),
-                self.distances.as_ptr(),
-                self.distances.len(),
-                self.leaves.as_ptr(),
-                self.leaves.len(),
-            )
-        };
+        let sound = with_tree!(mittenhelm_sound, self);
         sound != 0
     }
 
     /// The deepest present of a cell key and its ancestors of level 1 or more.
     pub fn look_up(&self, key: u64) -> Result<Lookup, Refusal> {
         let (mut found, mut distance, mut tried) = (0, 0.0, 0);
-        let number = unsafe {
-            raw::mittenhelm_look_up(
-                self.keys.as_ptr(),
-                self.keys.len(),
-                self.distances.as_ptr(),
-                self.distances.len(),
-                self.leaves.as_ptr(),
-                self.leaves.len(),
-                key,
-                &mut found,
-                &mut distance,
-                &mut tried,
-            )
-        };
+        let number = with_tree!(mittenhelm_look_up, self, key, &mut found, &mut distance, &mut tried);
         let answer = match found {
             0 => Lookup::Nothing { tried },
             key => Lookup::Found { key, distance, tried },
@@ -412,43 +407,23 @@ impl Tree<'_> {
     /// Writes every vertex with its level, ascending, from a start place on into both tables. The answer is their number.
     pub fn list(&self, start: usize, vertices: &mut [u64], levels: &mut [u8]) -> Result<usize, Refusal> {
         let mut count = 0;
-        let number = unsafe {
-            raw::mittenhelm_list(
-                self.keys.as_ptr(),
-                self.keys.len(),
-                self.distances.as_ptr(),
-                self.distances.len(),
-                self.leaves.as_ptr(),
-                self.leaves.len(),
-                start,
-                vertices.as_mut_ptr(),
-                vertices.len(),
-                levels.as_mut_ptr(),
-                levels.len(),
-                &mut count,
-            )
-        };
+        let number = with_tree!(
+            mittenhelm_list,
+            self,
+            start,
+            vertices.as_mut_ptr(),
+            vertices.len(),
+            levels.as_mut_ptr(),
+            levels.len(),
+            &mut count
+        );
         accepted(number, count)
     }
 
     /// The deepest ancestors of the cells of the level on the eight sides of an inner vertex.
     pub fn dual_cell(&self, vertex: u64, level: u32) -> Result<DualCell, Refusal> {
         let mut cell = DualCell { keys: [0; 8], distances: [0.0; 8], tried: 0 };
-        let number = unsafe {
-            raw::mittenhelm_dual_cell(
-                self.keys.as_ptr(),
-                self.keys.len(),
-                self.distances.as_ptr(),
-                self.distances.len(),
-                self.leaves.as_ptr(),
-                self.leaves.len(),
-                vertex,
-                level,
-                &mut cell.keys,
-                &mut cell.distances,
-                &mut cell.tried,
-            )
-        };
+        let number = with_tree!(mittenhelm_dual_cell, self, vertex, level, &mut cell.keys, &mut cell.distances, &mut cell.tried);
         accepted(number, cell)
     }
 }

@@ -3,7 +3,7 @@
 
 use crate::calls::{bits, Pair, Seen};
 use oracle_answers::compares_with_text;
-use oracle_answers::fields::{field, Kind, KINDS};
+use oracle_answers::fields::{field, Kind};
 use oracle_answers::inputs::Random;
 use oracle_answers::model::{build::Tables, level};
 use oracle_answers::trees::{unreached, Field, Tree};
@@ -212,34 +212,4 @@ fn builds(kind: Kind) {
     }
 }
 
-macro_rules! builds_of {
-    ($($name:ident: $kind:ident,)*) => {
-        $(
-            #[test]
-            fn $name() {
-                builds(Kind::$kind);
-            }
-        )*
-
-        #[test]
-        fn no_kind_is_left_out() {
-            assert_eq!(KINDS, [$(Kind::$kind),*]);
-        }
-    };
-}
-
-builds_of! {
-    spheres: Sphere,
-    cuboids: Cuboid,
-    tori: Torus,
-    gyroids: Gyroid,
-    planes: Plane,
-    points: Point,
-    the_origin: Origin,
-    the_far_corner: FarCorner,
-    paths: Path,
-    constants: Constant,
-    noise: Noise,
-    edges: Edges,
-    odd_distances: Odd,
-}
+of_each_kind!(builds);

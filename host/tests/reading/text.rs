@@ -2,7 +2,7 @@
 //! search for eight nodes of its `extract_surface`.
 
 use crate::calls::{Given, Seen};
-use oracle_answers::fields::{field, Kind, KINDS};
+use oracle_answers::fields::{field, Kind};
 use oracle_answers::inputs::Random;
 use oracle_answers::model::level;
 use oracle_answers::model::reading::{DualCell, Tables};
@@ -142,37 +142,7 @@ fn trees_of(kind: Kind) {
     }
 }
 
-macro_rules! trees_of {
-    ($($name:ident: $kind:ident,)*) => {
-        $(
-            #[test]
-            fn $name() {
-                trees_of(Kind::$kind);
-            }
-        )*
-
-        #[test]
-        fn no_kind_is_left_out() {
-            assert_eq!(KINDS, [$(Kind::$kind),*]);
-        }
-    };
-}
-
-trees_of! {
-    spheres: Sphere,
-    cuboids: Cuboid,
-    tori: Torus,
-    gyroids: Gyroid,
-    planes: Plane,
-    points: Point,
-    the_origin: Origin,
-    the_far_corner: FarCorner,
-    paths: Path,
-    constants: Constant,
-    noise: Noise,
-    edges: Edges,
-    odd_distances: Odd,
-}
+of_each_kind!(trees_of);
 
 /// Sound trees that no build makes: the text reads them alike.
 #[test]
