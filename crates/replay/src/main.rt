@@ -17,8 +17,10 @@ use morton::SizeAnswer;
 use tree::Lookup;
 ghost use Prim.Native.Nat.{_+_, _≤_, _<_};
 
+// The call that stands for the end of the sample; a line has two digits for its own.
+const END: usize = 256;
+
 struct Line {
-    whole: bool,
     op: usize,
     a: u64,
     wide_b: u64,
@@ -71,7 +73,6 @@ fn narrow(n: u64) -> u32 {
 
 fn parse(text: [u8; 108]) -> Line {
     Line {
-        whole: true,
         op: word(text, 0, 2) as usize,
         a: word(text, 3, 16),
         wide_b: word(text, 20, 16),
@@ -90,8 +91,7 @@ fn read_line() -> Line {
     let got = io::read_full(STDIN_FILENO, &mut text);
     if got < 108 {
         return Line {
-            whole: false,
-            op: 0,
+            op: END,
             a: 0,
             wide_b: 0,
             wide_c: 0,
@@ -179,21 +179,6 @@ fn agrees(l: Line) -> bool {
 struct Step {
     state: State,
     same: bool,
-}
-
-fn no_build() -> State {
-    State {
-        bound: 0,
-        nodes: 0,
-        leaves: 0,
-        asked: 0,
-        lengths: Lengths {
-            keys: 0,
-            distances: 0,
-            leaves: 0,
-            queue: 0,
-        },
-    }
 }
 
 fn same_request(r: Request, l: Line) -> bool {
@@ -468,15 +453,18 @@ fn list(
 ) -> bool {
     clear_keys(vertices);
     clear_levels(levels);
-    let a = length_at(l.wide_c, 0, vertices.len());
-    let b = length_at(l.wide_c, 16, levels.len());
+    let a = length_at(l.a, 0, keys.len());
+    let b = length_at(l.a, 16, distances.len());
+    let c = length_at(l.a, 32, leaves.len());
+    let d = length_at(l.wide_c, 0, vertices.len());
+    let e = length_at(l.wide_c, 16, levels.len());
     let answer = dual::list(
-        keys,
-        distances,
-        leaves,
+        &keys[..a],
+        &distances[..b],
+        &leaves[..c],
         l.wide_b as usize,
-        &mut vertices[..a],
-        &mut levels[..b],
+        &mut vertices[..d],
+        &mut levels[..e],
     );
     same_count(answer, l)
 }
@@ -494,44 +482,22 @@ fn dual_cell(l: Line, keys: &[u64], distances: &[f32], leaves: &[u64]) -> bool {
     }
 }
 
-// A line that reads what is lent.
-fn read_lent(
-    l: Line,
-    keys: &[u64],
-    distances: &[f32],
-    leaves: &[u64],
-    vertices: &mut [u64],
-    levels: &mut [u8],
-) -> bool {
+// A line that reads what is lent and changes no table.
+fn read_lent(l: Line, keys: &[u64], distances: &[f32], leaves: &[u64]) -> bool {
     let op = l.op;
     match op {
         17 => same_bool(tree::sound(keys, distances, leaves), l.x),
         18 => same_lookup(tree::look_up(keys, distances, leaves, l.wide_b), l),
-        19 => list(l, keys, distances, leaves, vertices, levels),
         21 => dual_cell(l, keys, distances, leaves),
         _ => false,
     }
 }
 
-fn lend(
-    l: Line,
-    keys: &[u64],
-    distances: &[f32],
-    leaves: &[u64],
-    vertices: &mut [u64],
-    levels: &mut [u8],
-) -> bool {
+fn lend(l: Line, keys: &[u64], distances: &[f32], leaves: &[u64]) -> bool {
     let a = length_at(l.a, 0, keys.len());
     let b = length_at(l.a, 16, distances.len());
     let c = length_at(l.a, 32, leaves.len());
-    read_lent(
-        l,
-        &keys[..a],
-        &distances[..b],
-        &leaves[..c],
-        vertices,
-        levels,
-    )
+    read_lent(l, &keys[..a], &distances[..b], &leaves[..c])
 }
 
 fn level_at(table: &[u8], at: usize) -> u8 {
@@ -558,9 +524,10 @@ fn read_tree(
     let op = l.op;
     match op {
         16 => put(l, keys, distances, leaves),
+        19 => list(l, keys, distances, leaves, vertices, levels),
         20 => same_listed(l, vertices, levels),
         22 => same_slab(dual::slab(l.a, l.b, l.c), l),
-        _ => lend(l, keys, distances, leaves, vertices, levels),
+        _ => lend(l, keys, distances, leaves),
     }
 }
 
@@ -656,14 +623,34 @@ struct Rest {
     next: Line,
 }
 
-fn whole_sample() -> Rest {
+// The state of the build at hand, with what is left.
+struct Progress {
+    state: State,
+    rest: Rest,
+}
+
+fn begin() -> Progress {
     let none = [0u64; 23];
-    Rest {
-        tally: Tally {
-            agree: none,
-            differ: 0,
+    Progress {
+        state: State {
+            bound: 0,
+            nodes: 0,
+            leaves: 0,
+            asked: 0,
+            lengths: Lengths {
+                keys: 0,
+                distances: 0,
+                leaves: 0,
+                queue: 0,
+            },
         },
-        next: read_line(),
+        rest: Rest {
+            tally: Tally {
+                agree: none,
+                differ: 0,
+            },
+            next: read_line(),
+        },
     }
 }
 
@@ -673,12 +660,6 @@ fn after(rest: Rest, same: bool) -> Rest {
         tally: counted(rest.tally, l.op, same),
         next: read_line(),
     }
-}
-
-// The state of the build at hand, with what is left.
-struct Progress {
-    state: State,
-    rest: Rest,
 }
 
 fn pass_line(
@@ -697,20 +678,14 @@ fn pass_line(
     }
 }
 
-fn comes_before_trees(rest: Rest) -> bool {
-    let l = rest.next;
-    if l.whole { l.op < 16 } else { false }
-}
-
 // The lines of keys and builds.
 fn replay(keys: &mut [u64], distances: &mut [f32], leaves: &mut [u64], queue: &mut [u64]) -> Rest {
-    let mut p = Progress {
-        state: no_build(),
-        rest: whole_sample(),
-    };
+    let mut p = begin();
     let mut left: u32 = 100_000;
     while 0 < left {
-        if comes_before_trees(p.rest) {
+        let rest = p.rest;
+        let l = rest.next;
+        if l.op < 16 {
             let next = pass_line(p, keys, distances, leaves, queue);
             p = next;
             left -= 1;
@@ -734,7 +709,7 @@ fn replay_trees(
     let mut left: u32 = 100_000;
     while 0 < left {
         let l = rest.next;
-        if l.whole {
+        if l.op < END {
             let same = read_tree(l, keys, distances, leaves, vertices, levels);
             let fewer = after(rest, same);
             rest = fewer;
@@ -746,32 +721,22 @@ fn replay_trees(
     rest.tally
 }
 
-fn replay_first() -> Rest {
+fn main() {
     let mut keys = [0u64; 1024];
     let mut distances = [0.0f32; 1024];
     let mut leaves = [0u64; 1024];
     let mut queue = [0u64; 1024];
-    replay(&mut keys, &mut distances, &mut leaves, &mut queue)
-}
-
-fn replay_rest(rest: Rest) -> Tally {
-    let mut keys = [0u64; 1024];
-    let mut distances = [0.0f32; 1024];
-    let mut leaves = [0u64; 1024];
+    let rest = replay(&mut keys, &mut distances, &mut leaves, &mut queue);
     let mut vertices = [0u64; 1024];
     let mut levels = [0u8; 1024];
-    replay_trees(
+    let t = replay_trees(
         rest,
         &mut keys,
         &mut distances,
         &mut leaves,
         &mut vertices,
         &mut levels,
-    )
-}
-
-fn main() {
-    let t = replay_rest(replay_first());
+    );
     let agree = t.agree;
     show(agree);
     io::write_all(STDOUT_FILENO, b"differ ");

@@ -18,3 +18,20 @@ fn the_file_is_the_generated_one() {
     assert_eq!(file.len(), fresh.len());
     assert!(fresh.lines().all(|line| line.len() == 107));
 }
+
+/// Each call that reads a tree has lines enough, and so has each of its refusals.
+#[test]
+fn lines_that_read_a_tree() {
+    if !compares_with_text() {
+        return;
+    }
+    let text = sample::text();
+    let reading = |line: &&str| ("11".."17").contains(&&line[..2]);
+    let count = |is: &dyn Fn(&str) -> bool| text.lines().filter(reading).filter(|line| is(line)).count();
+    for call in ["11", "12", "13", "14", "15", "16"] {
+        assert!(count(&|line| line.starts_with(call)) > 15, "call {call}");
+    }
+    for refusal in ["01", "04", "05", "0b", "0c"] {
+        assert!(count(&|line| &line[54..56] == refusal) > 3, "refusal {refusal}");
+    }
+}

@@ -26,12 +26,6 @@ slice-aggregate-read-lent-3 c = sym (length-take-le _ _ (c .before .before .befo
 read-lent-requires : tie.Need-read-lent-requires
 read-lent-requires c κs = search needs
 
-same-length : tie.Need-same-length
-same-length c = search needs
-
-same-length-2 : tie.Need-same-length-2
-same-length-2 c = search needs
-
 returns : tie.Need-returns
 returns c = search needs
 
@@ -46,6 +40,4 @@ lend-spec =
     slice-aggregate-read-lent-2
     slice-aggregate-read-lent-3
     read-lent-requires
-    same-length
-    same-length-2
     returns)

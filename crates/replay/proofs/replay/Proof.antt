@@ -16,17 +16,11 @@ Inv-loop keys₀ distances₀ leaves₀ queue₀ p₀ left₀ keys distances lea
 abbrev μ-loop : tie.MeasureT-loop
 μ-loop keys₀ distances₀ leaves₀ queue₀ p₀ left₀ keys distances leaves queue p left = left
 
-no-build-requires : tie.Need-no-build-requires Inv-loop μ-loop
-no-build-requires c κs = search needs
-
-whole-sample-requires : tie.Need-whole-sample-requires Inv-loop μ-loop
-whole-sample-requires c κs = search needs
+begin-requires : tie.Need-begin-requires Inv-loop μ-loop
+begin-requires c κs = search needs
 
 loop-holds : tie.Need-loop-holds Inv-loop μ-loop
 loop-holds c = (refl, refl, refl, refl)
-
-comes-before-trees-requires : tie.Need-comes-before-trees-requires Inv-loop μ-loop
-comes-before-trees-requires c κs = search needs
 
 pass-line-requires : tie.Need-pass-line-requires Inv-loop μ-loop
 pass-line-requires c κs = search needs
@@ -67,10 +61,8 @@ replay-spec =
     (tie.spec
     Inv-loop
     μ-loop
-    no-build-requires
-    whole-sample-requires
+    begin-requires
     loop-holds
-    comes-before-trees-requires
     pass-line-requires
     sub-left
     loop-less

@@ -40,7 +40,7 @@ fn tree(split: &[u64]) -> Tables {
     let mut keys: Vec<u64> = split.iter().flat_map(|key| (0..8).map(move |child| 8 * key + child)).collect();
     keys.push(1);
     keys.sort_unstable();
-    let odd = [0x7fc0_0000, 0x8000_0000, 0, 1, 0x7f80_0000, 0xff80_0000, 0x8000_0001, 0x7f7f_ffff];
+    let odd = [0x8000_0000, 0x7fc0_0000, 0, 1, 0x7f80_0000, 0xff80_0000, 0x8000_0001, 0x7f7f_ffff];
     let distance = |place: usize| odd.get(place).copied().unwrap_or_else(|| (place as f32 - 40.5).to_bits());
     let leaves = keys.iter().copied().filter(|key| !split.contains(key)).collect();
     Tables { distances: (0..keys.len()).map(distance).collect(), keys, leaves }
