@@ -31,6 +31,7 @@ pub enum ListAnswer {
     Refused(u32),
 }
 
+// The slab's number, from 0 on, or the number of the refusal.
 pub enum SlabAnswer {
     Is(u32),
     Refused(u32),
@@ -359,6 +360,7 @@ fn around(keys: &[u64], distances: &[f32], middle: u64) -> Dual
     }
 }
 
+// A refusal hands back empty arrays.
 fn refused(number: u32) -> Dual
     ensures { λ r. ⌜ RefusedSays number (r .keys) (r .distances) (r .tried) ⌝ }
 {
