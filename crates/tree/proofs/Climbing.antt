@@ -177,7 +177,6 @@ module _ (t : Tree) (S : Sound t) (more : 1 < length (t .keys)) where
   -- the cells of level 1 are there
   root-split : (w : ℕ) → w < 8 → In (8 * 1 + w) (t .keys)
   root-split w h =
-      let k : ℕ = getD (t .keys) 1 0 in
       let second : In (getD (t .keys) 1 0) (t .keys) = in-at (t .keys) 1 more in
       let above : 1 < getD (t .keys) 1 0 = omega (arith, S .ascending 0 1 (omega arith) more, S .first .here) in
       let q : In (getD (t .keys) 1 0 / 8) (t .keys) =
