@@ -1,4 +1,0 @@
--- What the contracts of `mittenhelm` cite.
-pub mod Boundary
-pub mod Words
-pub mod Reading

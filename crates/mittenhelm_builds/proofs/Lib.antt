@@ -1,0 +1,3 @@
+-- Laws that the proofs of `mittenhelm_builds` share.
+pub mod Words
+pub mod One

@@ -1,0 +1,75 @@
+-- A build's answer is handed over as its case says. Assumes nothing.
+use Prim.Native.Nat.{ℕ, _≤_, _<_}
+use mathlib.Core.Path.{_≡_, refl}
+use mathlib.Core.List.{List, [], _∷_}
+use native.Mathlib.Omega.{arith}
+use lib.Ieee.{Float}
+use lib.ListN.{length, getD, set}
+use borrow.Author.Tests.{le-ltb, lt-ltb, eq-eqb, ne-eqb}
+use Rattle.morton.specs.Level.{limit}
+use Rattle.build.specs.declared.Request.{Request}
+use Rattle.build.specs.declared.State.{State}
+use Rattle.build.specs.declared.Answer.{Answer}
+use Rattle.build.specs.declared.Answer.the-variants.{Ask, Finished, Refused}
+use Rattle.build.specs.Build.{Tables, Outcome, outcome, startOf, splitOf, distanceOf}
+use Rattle.build.proofs.Laws.{deep-refused}
+use Rattle.mittenhelm_builds.specs.Words.{stateOf, wordsOf, Reply, reply, handOver, startReplies, effect, effectOf, distanceEffect}
+
+-- eight stores fill a slice of eight
+pub eight-words : (ws : List ℕ) (a b c d e f g h : ℕ) → length ws ≡ 8
+    → set (set (set (set (set (set (set (set ws 0 a) 1 b) 2 c) 3 d) 4 e) 5 f) 6 g) 7 h ≡ (a ∷ b ∷ c ∷ d ∷ e ∷ f ∷ g ∷ h ∷ [])
+eight-words [] a b c d e f g h l = absurd (omega arith)
+eight-words (_ ∷ []) a b c d e f g h l = absurd (omega arith)
+eight-words (_ ∷ _ ∷ []) a b c d e f g h l = absurd (omega arith)
+eight-words (_ ∷ _ ∷ _ ∷ []) a b c d e f g h l = absurd (omega arith)
+eight-words (_ ∷ _ ∷ _ ∷ _ ∷ []) a b c d e f g h l = absurd (omega arith)
+eight-words (_ ∷ _ ∷ _ ∷ _ ∷ _ ∷ []) a b c d e f g h l = absurd (omega arith)
+eight-words (_ ∷ _ ∷ _ ∷ _ ∷ _ ∷ _ ∷ []) a b c d e f g h l = absurd (omega arith)
+eight-words (_ ∷ _ ∷ _ ∷ _ ∷ _ ∷ _ ∷ _ ∷ []) a b c d e f g h l = absurd (omega arith)
+eight-words (_ ∷ _ ∷ _ ∷ _ ∷ _ ∷ _ ∷ _ ∷ _ ∷ []) a b c d e f g h l = refl
+eight-words (_ ∷ _ ∷ _ ∷ _ ∷ _ ∷ _ ∷ _ ∷ _ ∷ _ ∷ _) a b c d e f g h l = absurd (omega arith)
+
+pub over-ask : (a : Answer) (r : Request) (s : State) (words words' : List ℕ) (q : Request) → a ≡ Ask r s → words' ≡ wordsOf s
+    → reply 0 words' r ≡ handOver a words q
+unfolding handOver
+over-ask a r s words words' q e f = rw (e, f)
+
+pub over-finished : (a : Answer) (s : State) (words words' : List ℕ) (q : Request) → a ≡ Finished s → words' ≡ wordsOf s
+    → reply 0 words' q ≡ handOver a words q
+unfolding handOver
+over-finished a s words words' q e f = rw (e, f)
+
+pub over-refused : (a : Answer) (k : ℕ) (words : List ℕ) (q : Request) → a ≡ Refused k → reply k words q ≡ handOver a words q
+unfolding handOver
+over-refused a k words q e = rw e
+
+-- ---- start
+
+module _ (bound : ℕ) (t : Tables) (words : List ℕ) (q : Request) where
+  pub start-deep : limit < bound → reply 5 words q ≡ startReplies bound t words q
+  unfolding startReplies
+  start-deep h = rw (lt-ltb limit bound h)
+
+  pub start-wordless : (bound ≤ limit) → (length words ≡ 8 → ⊥) → reply 10 words q ≡ startReplies bound t words q
+  unfolding startReplies
+  start-wordless h n = rw (le-ltb limit bound h, ne-eqb (length words) 8 n)
+
+  pub start-over : (a : Answer) (h : Reply) → bound ≤ limit → length words ≡ 8 → a ≡ startOf bound t → h ≡ handOver a words q → h ≡ startReplies bound t words q
+  unfolding startReplies
+  start-over a h b l e f = rw (le-ltb limit bound b, eq-eqb (length words) 8 l, ← e) f
+
+-- ---- distance
+
+module _ (words : List ℕ) (d : Float) (t : Tables) (q : Request) where
+  pub distance-wordless : (length words ≡ 8 → ⊥) → effect (reply 10 words q) t ≡ distanceEffect words d t q
+  unfolding distanceEffect
+  distance-wordless n = rw (ne-eqb (length words) 8 n)
+
+  pub distance-over : (o : Outcome) (h : Reply) → length words ≡ 8 → o ≡ distanceOf (stateOf words) d t → h ≡ handOver (o .answer) words q
+      → effect h (o .tables) ≡ distanceEffect words d t q
+  unfolding distanceEffect effectOf
+  distance-over o h l e f = rw (eq-eqb (length words) 8 l, ← e, f)
+
+  pub distance-deep : length words ≡ 8 → limit < getD words 0 0 → effect (reply 10 words q) t ≡ distanceEffect words d t q
+  unfolding distanceOf stateOf handOver
+  distance-deep l h = distance-over (outcome (Refused 10) t) (reply 10 words q) l (deep-refused (stateOf words) (splitOf (stateOf words) d) d t h) refl

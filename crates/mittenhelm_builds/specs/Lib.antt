@@ -1,0 +1,2 @@
+-- What the contracts of `mittenhelm_builds` cite.
+pub mod Words

@@ -1,0 +1,2 @@
+-- What the contracts of `mittenhelm_keys` cite.
+pub mod Keys

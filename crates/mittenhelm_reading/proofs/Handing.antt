@@ -1,0 +1,41 @@
+-- An answer that is known is handed over as its case says. Assumes nothing.
+use Prim.Native.Nat.{ℕ}
+use mathlib.Core.Path.{_≡_, refl, sym, subst, _∙_}
+use mathlib.Core.List.{List}
+use lib.Ieee.{Float}
+use Rattle.tree.specs.declared.Lookup.{Lookup}
+use Rattle.tree.specs.declared.Lookup.the-variants as lookup
+use Rattle.dual.specs.declared.Tried.{Tried}
+use Rattle.dual.specs.declared.Tried.the-variants as tried
+use Rattle.dual.specs.declared.ListAnswer.{ListAnswer}
+use Rattle.dual.specs.declared.ListAnswer.the-variants as list
+use Rattle.dual.specs.declared.SlabAnswer.{SlabAnswer}
+use Rattle.dual.specs.declared.SlabAnswer.the-variants as slab
+use Rattle.mittenhelm_reading.specs.Reading.{Found, foundAt, HandsFound, Eight, eightAt, HandsEight, HandsCount, HandsSlab}
+
+pub found-is : (a : Lookup) (was : Found) (k : ℕ) (d : Float) (n : ℕ) → a ≡ lookup.Found k d n → HandsFound a was 0 (foundAt k d n)
+found-is a was k d n e = subst (λ (b : Lookup). HandsFound b was 0 (foundAt k d n)) (sym e) (refl, refl)
+
+pub found-nothing : (a : Lookup) (was : Found) (n : ℕ) → a ≡ lookup.Nothing n → HandsFound a was 0 (foundAt 0 (was .distance) n)
+found-nothing a was n e = subst (λ (b : Lookup). HandsFound b was 0 (foundAt 0 (was .distance) n)) (sym e) (refl, refl)
+
+pub found-refused : (a : Lookup) (was : Found) (k : ℕ) → a ≡ lookup.Refused k → HandsFound a was k was
+found-refused a was k e = subst (λ (b : Lookup). HandsFound b was k was) (sym e) (refl, refl)
+
+pub eight-is : (keys : List ℕ) (distances : List Float) (a : Tried) (was : Eight) (n : ℕ) → a ≡ tried.Keys n → HandsEight keys distances a was 0 (eightAt keys distances n)
+eight-is keys distances a was n e = subst (λ (b : Tried). HandsEight keys distances b was 0 (eightAt keys distances n)) (sym e) (refl, refl)
+
+pub eight-refused : (keys : List ℕ) (distances : List Float) (a : Tried) (was : Eight) (k : ℕ) → a ≡ tried.Refused k → HandsEight keys distances a was k was
+eight-refused keys distances a was k e = subst (λ (b : Tried). HandsEight keys distances b was k was) (sym e) (refl, refl)
+
+pub count-is : (a : ListAnswer) (was n : ℕ) → a ≡ list.Count n → HandsCount a was 0 n
+count-is a was n e = subst (λ (b : ListAnswer). HandsCount b was 0 n) (sym e) (refl, refl)
+
+pub count-refused : (a : ListAnswer) (was k : ℕ) → a ≡ list.Refused k → HandsCount a was k was
+count-refused a was k e = subst (λ (b : ListAnswer). HandsCount b was k was) (sym e) (refl, refl)
+
+pub slab-is : (a b : SlabAnswer) (was n : ℕ) → b ≡ a → b ≡ slab.Is n → HandsSlab a was 0 n
+slab-is a b was n f e = subst (λ (c : SlabAnswer). HandsSlab c was 0 n) (sym e ∙ f) (refl, refl)
+
+pub slab-refused : (a b : SlabAnswer) (was k : ℕ) → b ≡ a → b ≡ slab.Refused k → HandsSlab a was k was
+slab-refused a b was k f e = subst (λ (c : SlabAnswer). HandsSlab c was k was) (sym e ∙ f) (refl, refl)

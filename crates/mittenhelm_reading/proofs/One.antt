@@ -1,0 +1,62 @@
+-- One answer only: of each exported call, what is returned, every out parameter and every table are settled by its promise. Assumes nothing.
+use mathlib.Core.Path.{_≡_, ap, subst}
+use mathlib.Core.Bool.{Bool}
+use Prim.Native.Nat.{ℕ}
+use Rattle.morton.proofs.One.{OnlyOne, both, handed-on}
+use Rattle.tree.specs.declared.Lookup.{Lookup}
+use Rattle.tree.specs.declared.Lookup.the-variants as lookup
+use Rattle.tree.specs.Tree.{Tree, Sound, Decides}
+use Rattle.tree.specs.Climb.{LookupSays}
+use Rattle.tree.proofs.One.{sound-one as sound-answer-one, look-up-one as lookup-answer-one}
+use Rattle.dual.specs.declared.Dual.{Dual}
+use Rattle.dual.specs.declared.Tried.{Tried}
+use Rattle.dual.specs.declared.Tried.the-variants as tried
+use Rattle.dual.specs.declared.ListAnswer.{ListAnswer}
+use Rattle.dual.specs.declared.ListAnswer.the-variants as list
+use Rattle.dual.specs.declared.SlabAnswer.{SlabAnswer}
+use Rattle.dual.specs.declared.SlabAnswer.the-variants as slab
+use Rattle.dual.specs.Dual.{DualSays}
+use Rattle.dual.specs.Listing.{Lists}
+use Rattle.dual.specs.Slab.{slabAnswer}
+use Rattle.dual.proofs.One.{dual-cell-one as dual-answer-one, list-one as list-answer-one}
+use Rattle.mittenhelm_reading.specs.Reading.{Found, foundAt, HandsFound, HandsLookup, Eight, eightAt, HandsEight, HandsDual, HandsCount, HandsList, HandsSlab}
+
+pub sound-one : (t : Tree) → OnlyOne (λ (r : Bool). Decides r (Sound t))
+sound-one t = sound-answer-one t
+
+found-one : (a : Lookup) (was : Found) → OnlyOne (λ (r : ℕ × Found). HandsFound a was (r .0) (r .1))
+found-one (lookup.Found k d n) was = both 0 (foundAt k d n)
+found-one (lookup.Nothing n) was = both 0 (foundAt 0 (was .distance) n)
+found-one (lookup.Refused k) was = both k was
+
+pub look-up-one : (t : Tree) (k : ℕ) (was : Found) → OnlyOne (λ (r : ℕ × Found). HandsLookup t k was (r .0) (r .1))
+look-up-one t k was = handed-on (LookupSays t k) (λ a r. HandsFound a was (r .0) (r .1)) (lookup-answer-one t k) (λ a. found-one a was)
+
+eight-one : (a : Dual) (b : Tried) (was : Eight) → OnlyOne (λ (r : ℕ × Eight). HandsEight (a .keys) (a .distances) b was (r .0) (r .1))
+eight-one a (tried.Keys n) was = both 0 (eightAt (a .keys) (a .distances) n)
+eight-one a (tried.Refused k) was = both k was
+
+pub dual-cell-one : (t : Tree) (L v : ℕ) (was : Eight) → OnlyOne (λ (r : ℕ × Eight). HandsDual t L v was (r .0) (r .1))
+dual-cell-one t L v was =
+    handed-on (λ (a : Dual). DualSays t L v (a .keys) (a .distances) (a .tried)) (λ a r. HandsEight (a .keys) (a .distances) (a .tried) was (r .0) (r .1))
+    (dual-answer-one t L v) (λ a. eight-one a (a .tried) was)
+
+count-one : (a : ListAnswer) (was : ℕ) → OnlyOne (λ (r : ℕ × ℕ). HandsCount a was (r .0) (r .1))
+count-one (list.Count n) was = both 0 n
+count-one (list.Refused k) was = both k was
+
+-- the count, and both tables
+pub list-one : (t : Tree) (start was : ℕ) (before : Lists)
+    → OnlyOne (λ (r : Lists × (ℕ × ℕ)). HandsList t start before (r .0) was (r .1 .0) (r .1 .1))
+list-one t start was before r s p q =
+    let same = list-answer-one t start before (r .0, p .0) (s .0, q .0) (p .1) (q .1) in
+    let n : r .1 ≡ s .1 =
+    count-one (q .0) was (r .1) (s .1) (subst (λ (a : ListAnswer). HandsCount a was (r .1 .0) (r .1 .1)) (ap (λ (x : Lists × ListAnswer). x .1) same) (p .2)) (q .2) in
+    λ i. (ap (λ (x : Lists × ListAnswer). x .0) same i, n i)
+
+slab-handed-one : (a : SlabAnswer) (was : ℕ) → OnlyOne (λ (r : ℕ × ℕ). HandsSlab a was (r .0) (r .1))
+slab-handed-one (slab.Is n) was = both 0 n
+slab-handed-one (slab.Refused k) was = both k was
+
+pub slab-one : (v L e was : ℕ) → OnlyOne (λ (r : ℕ × ℕ). HandsSlab (slabAnswer v L e) was (r .0) (r .1))
+slab-one v L e was = slab-handed-one (slabAnswer v L e) was

@@ -1,0 +1,2 @@
+-- What the contracts of `mittenhelm_reading` cite.
+pub mod Reading

@@ -1,0 +1,122 @@
+// The boundary for hosts, reading: numbers and slices only. include/mittenhelm.h declares each function for C.
+use dual::ListAnswer;
+use dual::SlabAnswer;
+use dual::Tried;
+use tree::Lookup;
+ghost use Rattle.tree.specs.Tree.{treeOf, Sound, Decides};
+ghost use Rattle.dual.specs.Listing.{listsOf};
+ghost use Rattle.dual.specs.Slab.{slabAnswer};
+ghost use Rattle.mittenhelm_reading.specs.Reading.{foundAt, HandsLookup, HandsList, eightAt, HandsDual, HandsSlab};
+
+#[no_mangle]
+pub extern "C" fn mittenhelm_sound(keys: &[u64], distances: &[f32], leaves: &[u64]) -> bool
+    ensures { λ r. ⌜ Decides r (Sound (treeOf (now (keys .entry)) (now (distances .entry)) (now (leaves .entry)))) ⌝ }
+{
+    tree::sound(keys, distances, leaves)
+}
+
+#[no_mangle]
+pub extern "C" fn mittenhelm_look_up(
+    keys: &[u64],
+    distances: &[f32],
+    leaves: &[u64],
+    key: u64,
+    found: &mut u64,
+    distance: &mut f32,
+    tried: &mut u32,
+) -> u32
+    ensures { λ r. ⌜
+        HandsLookup (treeOf (now (keys .entry)) (now (distances .entry)) (now (leaves .entry))) key
+        (foundAt (now (found .entry)) (now (distance .entry)) (now (tried .entry))) r
+        (foundAt (now (found .exit)) (now (distance .exit)) (now (tried .exit))) ⌝ }
+{
+    let answer = tree::look_up(keys, distances, leaves, key);
+    match answer {
+        Lookup::Found {
+            key: k,
+            distance: d,
+            tried: n,
+        } => {
+            *found = k;
+            *distance = d;
+            *tried = n;
+            0
+        }
+        Lookup::Nothing { tried: n } => {
+            *found = 0;
+            *tried = n;
+            0
+        }
+        Lookup::Refused(number) => number,
+    }
+}
+
+#[no_mangle]
+pub extern "C" fn mittenhelm_list(
+    keys: &[u64],
+    distances: &[f32],
+    leaves: &[u64],
+    start: usize,
+    vertices: &mut [u64],
+    levels: &mut [u8],
+    count: &mut usize,
+) -> u32
+    ensures { λ r. ⌜
+        HandsList (treeOf (now (keys .entry)) (now (distances .entry)) (now (leaves .entry))) start
+        (listsOf (now (vertices .entry)) (now (levels .entry))) (listsOf (now (vertices .exit)) (now (levels .exit)))
+        (now (count .entry)) r (now (count .exit)) ⌝ }
+{
+    let answer = dual::list(keys, distances, leaves, start, vertices, levels);
+    match answer {
+        ListAnswer::Count(n) => {
+            *count = n;
+            0
+        }
+        ListAnswer::Refused(number) => number,
+    }
+}
+
+#[no_mangle]
+pub extern "C" fn mittenhelm_dual_cell(
+    keys: &[u64],
+    distances: &[f32],
+    leaves: &[u64],
+    vertex: u64,
+    level: u32,
+    nodes: &mut [u64; 8],
+    values: &mut [f32; 8],
+    tried: &mut u32,
+) -> u32
+    ensures { λ r. ⌜
+        HandsDual (treeOf (now (keys .entry)) (now (distances .entry)) (now (leaves .entry))) level vertex
+        (eightAt (now (nodes .entry)) (now (values .entry)) (now (tried .entry))) r
+        (eightAt (now (nodes .exit)) (now (values .exit)) (now (tried .exit))) ⌝ }
+{
+    let cell = dual::dual_cell(keys, distances, leaves, vertex, level);
+    let eight = cell.keys;
+    let theirs = cell.distances;
+    let answer = cell.tried;
+    match answer {
+        Tried::Keys(n) => {
+            *nodes = eight;
+            *values = theirs;
+            *tried = n;
+            0
+        }
+        Tried::Refused(number) => number,
+    }
+}
+
+#[no_mangle]
+pub extern "C" fn mittenhelm_slab(vertex: u64, level: u32, exponent: u32, slab: &mut u32) -> u32
+    ensures { λ r. ⌜ HandsSlab (slabAnswer vertex level exponent) (now (slab .entry)) r (now (slab .exit)) ⌝ }
+{
+    let answer = dual::slab(vertex, level, exponent);
+    match answer {
+        SlabAnswer::Is(n) => {
+            *slab = n;
+            0
+        }
+        SlabAnswer::Refused(number) => number,
+    }
+}
