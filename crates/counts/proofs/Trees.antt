@@ -10,10 +10,10 @@ use lib.Ieee.{Float}
 use Rattle.build.specs.declared.State.{State}
 use Rattle.build.specs.Build.{Tables, tablesOf}
 use Rattle.tree.specs.Tree.{Tree, Sound}
-use Rattle.dual.specs.declared.ListAnswer.{ListAnswer}
-use Rattle.dual.specs.declared.ListAnswer.the-variants as list
-use Rattle.dual.specs.Listing as listing
-use Rattle.dual.specs.Listing.{Lists, listsOf, ListSays}
+use Rattle.vertices.specs.declared.ListAnswer.{ListAnswer}
+use Rattle.vertices.specs.declared.ListAnswer.the-variants as list
+use Rattle.vertices.specs.Listing as listing
+use Rattle.vertices.specs.Listing.{Lists, listsOf, ListSays}
 use Rattle.demands.specs.Reading.{treeAfter}
 use Rattle.demands.proofs.Trace.{run-traced}
 use Rattle.demands.proofs.Fits.{nodes-count, leaves-count}

@@ -11,8 +11,8 @@ use Rattle.build.specs.declared.Answer.{Answer}
 use Rattle.build.specs.declared.Answer.the-variants as answer
 use Rattle.build.specs.declared.Answer.the-variants.{Ask}
 use Rattle.build.specs.Build.{Tables, tablesOf, outcome, startOf, distanceOf}
-use Rattle.dual.specs.declared.ListAnswer.{ListAnswer}
-use Rattle.dual.specs.declared.ListAnswer.the-variants as list
+use Rattle.vertices.specs.declared.ListAnswer.{ListAnswer}
+use Rattle.vertices.specs.declared.ListAnswer.the-variants as list
 use Rattle.geometry.specs.Listing.{Listed}
 use Rattle.demands.specs.Run.{Run}
 use Rattle.counts.specs.declared.End.{End}

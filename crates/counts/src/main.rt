@@ -3,9 +3,9 @@
 // and not proved.
 use build::Answer;
 use build::State;
-use dual::ListAnswer;
 use libc::STDIN_FILENO;
 use libc::STDOUT_FILENO;
+use vertices::ListAnswer;
 ghost use mathlib.Core.Path.{_≡_};
 ghost use Prim.Native.Nat.{_<_};
 ghost use lib.ListN.{take};
@@ -139,7 +139,7 @@ fn listed(s: State, keys: &[u64], distances: &[f32], leaves: &[u64]) -> ListAnsw
     let mut levels = [0u8; 1024];
     let n = s.nodes;
     let m = s.leaves;
-    dual::list(
+    vertices::list(
         &keys[..n],
         &distances[..n],
         &leaves[..m],

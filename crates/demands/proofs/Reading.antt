@@ -31,7 +31,7 @@ use Rattle.dual.specs.declared.Dual.{Dual}
 use Rattle.dual.specs.declared.Tried.{Tried}
 use Rattle.dual.specs.declared.Tried.the-variants as tried
 use Rattle.dual.specs.declared.Tried.the-variants.{Keys}
-use Rattle.dual.specs.Listing.{Lists, written, Wrote}
+use Rattle.vertices.specs.Listing.{Lists, written, Wrote}
 use Rattle.dual.specs.Dual.{DualSays, sum, DualCell, keyIn, distanceIn, climbAt, Around}
 use Rattle.dual.proofs.Filling.{around-dual}
 use Rattle.demands.specs.Reading.{Once, LeafCorner, ListsCorners, HoldsAlone, LeafCell, part, Reading, OfSoundTrees, treeAfter, OfFinishedBuilds}

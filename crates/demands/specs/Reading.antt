@@ -14,10 +14,10 @@ use Rattle.tree.specs.Tree.{Tree, StandsAt, In, Ascending, Sound}
 use Rattle.geometry.specs.Grid.{liesIn, Covers}
 use Rattle.geometry.specs.Corner.{Corner, StrictlyInside}
 use Rattle.dual.specs.declared.Dual.{Dual}
-use Rattle.dual.specs.declared.ListAnswer.the-variants.{Count, Refused}
+use Rattle.vertices.specs.declared.ListAnswer.the-variants.{Count, Refused}
 use Rattle.dual.specs.declared.Tried.the-variants as tried
 use Rattle.dual.specs.Dual.{DualCell, DualSays}
-use Rattle.dual.specs.Listing.{Lists, ListSays}
+use Rattle.vertices.specs.Listing.{Lists, ListSays}
 use Rattle.demands.specs.Run.{Run, nodeKeys, leafKeys}
 
 -- v stands in the list at one place.

@@ -1,10 +1,4 @@
--- The laws behind `dual`. Those of the list stand in the order in which they build on each other.
-pub mod Offsets
-pub mod Step
-pub mod Spot
-pub mod Range
-pub mod Marks
-pub mod Ways
+-- The laws behind `dual`.
 pub mod Filling
 pub mod Slabs
 pub mod One

@@ -1,6 +1,6 @@
--- One answer only: of each public call, two answers that meet its promise are the same, and so are the tables. Assumes nothing.
+-- One answer only: of each public call, two answers that meet its promise are the same. Assumes nothing.
 use Prim.Native.Nat.{ℕ, _<_}
-use mathlib.Core.Path.{_≡_, refl, sym, ap, ap₂, subst, _∙_}
+use mathlib.Core.Path.{_≡_, refl, sym, ap, _∙_}
 use mathlib.Core.Bool.{true, true≢false}
 use mathlib.Core.Logic.{_⊎_, inl, inr, ⊎-elim}
 use mathlib.Core.List.{List}
@@ -12,15 +12,11 @@ use Rattle.morton.specs.Vertex.{isInner, sideOf}
 use Rattle.morton.proofs.One.{OnlyOne, equal}
 use Rattle.tree.specs.Tree.{Tree, Sound}
 use Rattle.tree.proofs.One.{deepest-key, deepest-distance}
-use Rattle.geometry.proofs.Listing.{listed-unique}
 use Rattle.dual.specs.declared.Dual.{Dual}
-use Rattle.dual.specs.declared.ListAnswer.{ListAnswer}
-use Rattle.dual.specs.declared.ListAnswer.the-variants as list
 use Rattle.dual.specs.declared.SlabAnswer.{SlabAnswer}
 use Rattle.dual.specs.declared.Tried.{Tried}
 use Rattle.dual.specs.declared.Tried.the-variants.{Keys, Refused}
 use Rattle.dual.specs.Slab.{slabAnswer}
-use Rattle.dual.specs.Listing.{Lists, written, Room, Wrote, Short, ListSays}
 use Rattle.dual.specs.Dual.{sum, triedTo, DualCell, NoCell, DualSays}
 
 -- ---- dual cells
@@ -63,41 +59,6 @@ dual-cell-one t L v r s p q = go (r .tried) (s .tried) refl refl p q
     go (Keys n) (Refused k) e f (S, i, more, _) (_, _, w) = absurd (not-why t L v k S i more w)
     go (Refused j) (Keys n) e f (_, _, w) (S, i, more, _) = absurd (not-why t L v j S i more w)
     go (Refused j) (Refused k) e f (ks, ds, w) (ks', ds', w') = same r s (e ∙ ap Refused (why-one t L v j k w w') ∙ sym f) (ks ∙ sym ks') (ds ∙ sym ds')
-
--- ---- the list
-
-module _ (t : Tree) (start : ℕ) (was : Lists) where
-  wrote-count : {n m : ℕ} {left right : Lists} → Wrote (t .leaves) start n was left → Wrote (t .leaves) start m was right → n ≡ m
-  wrote-count a b = a .count ∙ ap length (listed-unique (t .leaves) (a .vs) (a .ls) (b .vs) (b .ls) (a .listed) (b .listed) .0) ∙ sym (b .count)
-
-  wrote-lists : {n m : ℕ} {left right : Lists} → Wrote (t .leaves) start n was left → Wrote (t .leaves) start m was right → left ≡ right
-  wrote-lists {n} {m} {left} {right} a b =
-      let u : (a .vs ≡ b .vs) × (a .ls ≡ b .ls) = listed-unique (t .leaves) (a .vs) (a .ls) (b .vs) (b .ls) (a .listed) (b .listed) in
-      let v : left .vertices ≡ right .vertices = a .vertices-are ∙ ap (written (was .vertices) start) (u .0) ∙ sym (b .vertices-are) in
-      let l : left .levels ≡ right .levels = a .levels-are ∙ ap (written (was .levels) start) (u .1) ∙ sym (b .levels-are) in
-      λ i. record { vertices = v i; levels = l i }
-
-  -- what was written had room
-  not-short : {n : ℕ} {left : Lists} → Wrote (t .leaves) start n was left → Short (t .leaves) start was → ⊥
-  not-short a s =
-      s .no-room
-      (subst (λ (k : ℕ). Room start k was)
-      (a .count ∙ ap length (listed-unique (t .leaves) (a .vs) (a .ls) (s .vs) (s .ls) (a .listed) (s .listed) .0)) (a .room))
-
-  -- nor was it refused
-  not-listed : {n k : ℕ} {left right : Lists} → ListSays t start was left (list.Count n) → ListSays t start was right (list.Refused k) → ⊥
-  not-listed a b = ⊎-elim (λ x. x .0 (a .0)) (λ x. not-short (a .1) (x .1)) (b .1)
-
-  pub list-one : OnlyOne (λ (o : Lists × ListAnswer). ListSays t start was (o .0) (o .1))
-  list-one (left, list.Count n) (right, list.Count m) a b = ap₂ (λ (x : Lists) (y : ListAnswer). (x, y)) (wrote-lists (a .1) (b .1)) (ap list.Count (wrote-count (a .1) (b .1)))
-  list-one (left, list.Count n) (right, list.Refused k) a b = absurd (not-listed a b)
-  list-one (left, list.Refused k) (right, list.Count n) a b = absurd (not-listed b a)
-  list-one (left, list.Refused k) (right, list.Refused j) a b =
-      ap₂ (λ (x : Lists) (y : ListAnswer). (x, y)) (a .0 ∙ sym (b .0))
-      (ap list.Refused (⊎-elim
-      (λ x. ⊎-elim (λ y. x .1 ∙ sym (y .1)) (λ y. absurd (x .0 (y .0))) (b .1))
-      (λ x. ⊎-elim (λ y. absurd (y .0 (x .0))) (λ y. x .2 ∙ sym (y .2)) (b .1))
-      (a .1)))
 
 -- ---- slabs
 

@@ -1,6 +1,3 @@
--- What the contracts of `dual` cite. Block and Walk are words for the steps of the list.
+-- What the contracts of `dual` cite.
 pub mod Dual
 pub mod Slab
-pub mod Listing
-pub mod Block
-pub mod Walk

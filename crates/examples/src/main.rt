@@ -1,6 +1,5 @@
 // Document 01's examples that are run and not proved, a line for each: what is given, and whether it gives what the document says.
 use build::Answer;
-use dual::ListAnswer;
 use dual::Tried;
 use libc::STDOUT_FILENO;
 use morton::CentreAnswer;
@@ -8,6 +7,7 @@ use morton::Key;
 use morton::KeyAnswer;
 use morton::SizeAnswer;
 use tree::Lookup;
+use vertices::ListAnswer;
 
 fn say(example: &[u8], holds: bool) {
     io::write_all(STDOUT_FILENO, example);
@@ -161,7 +161,7 @@ fn is_refused_with_63() -> bool {
 fn lists(keys: &[u64], distances: &[f32], leaves: &[u64], count: usize) -> bool {
     let mut vertices = [0u64; 100];
     let mut levels = [0u8; 100];
-    let answer = dual::list(keys, distances, leaves, 0, &mut vertices, &mut levels);
+    let answer = vertices::list(keys, distances, leaves, 0, &mut vertices, &mut levels);
     match answer {
         ListAnswer::Count(n) => n == count,
         ListAnswer::Refused(_) => false,

@@ -10,12 +10,12 @@ use Rattle.tree.specs.Climb.{LookupSays}
 use Rattle.dual.specs.declared.Dual.{Dual}
 use Rattle.dual.specs.declared.Tried.{Tried}
 use Rattle.dual.specs.declared.Tried.the-variants as tried
-use Rattle.dual.specs.declared.ListAnswer.{ListAnswer}
-use Rattle.dual.specs.declared.ListAnswer.the-variants as list
+use Rattle.vertices.specs.declared.ListAnswer.{ListAnswer}
+use Rattle.vertices.specs.declared.ListAnswer.the-variants as list
 use Rattle.dual.specs.declared.SlabAnswer.{SlabAnswer}
 use Rattle.dual.specs.declared.SlabAnswer.the-variants as slab
 use Rattle.dual.specs.Dual.{DualSays}
-use Rattle.dual.specs.Listing.{Lists, ListSays}
+use Rattle.vertices.specs.Listing.{Lists, ListSays}
 
 -- The three places of a lookup.
 pub record Found : Type 0 where

@@ -1,10 +1,10 @@
 // The boundary for hosts, reading: numbers and slices only. include/mittenhelm.h declares each function for C.
-use dual::ListAnswer;
 use dual::SlabAnswer;
 use dual::Tried;
 use tree::Lookup;
+use vertices::ListAnswer;
 ghost use Rattle.tree.specs.Tree.{treeOf, Sound, Decides};
-ghost use Rattle.dual.specs.Listing.{listsOf};
+ghost use Rattle.vertices.specs.Listing.{listsOf};
 ghost use Rattle.dual.specs.Slab.{slabAnswer};
 ghost use Rattle.mittenhelm_reading.specs.Reading.{foundAt, HandsLookup, HandsList, eightAt, HandsDual, HandsSlab};
 
@@ -66,7 +66,7 @@ pub extern "C" fn mittenhelm_list(
         (listsOf (now (vertices .entry)) (now (levels .entry))) (listsOf (now (vertices .exit)) (now (levels .exit)))
         (now (count .entry)) r (now (count .exit)) ⌝ }
 {
-    let answer = dual::list(keys, distances, leaves, start, vertices, levels);
+    let answer = vertices::list(keys, distances, leaves, start, vertices, levels);
     match answer {
         ListAnswer::Count(n) => {
             *count = n;

@@ -5,7 +5,6 @@ use build::Answer;
 use build::Lengths;
 use build::Request;
 use build::State;
-use dual::ListAnswer;
 use dual::SlabAnswer;
 use dual::Tried;
 use libc::STDIN_FILENO;
@@ -15,6 +14,7 @@ use morton::Key;
 use morton::KeyAnswer;
 use morton::SizeAnswer;
 use tree::Lookup;
+use vertices::ListAnswer;
 ghost use Prim.Native.Nat.{_+_, _≤_, _<_};
 
 // The call that stands for the end of the sample; a line has two digits for its own.
@@ -458,7 +458,7 @@ fn list(
     let c = length_at(l.a, 32, leaves.len());
     let d = length_at(l.wide_c, 0, vertices.len());
     let e = length_at(l.wide_c, 16, levels.len());
-    let answer = dual::list(
+    let answer = vertices::list(
         &keys[..a],
         &distances[..b],
         &leaves[..c],

@@ -1,0 +1,100 @@
+-- The cells one lower on the axes, from those of the parent. Assumes nothing.
+use Prim.Native.Nat.{ℕ, zero, suc, _+_, _*_, _-_, _/_, _%_, _^_, _≤_, _<_, min}
+use mathlib.Core.Path.{_≡_, _∙_, ap}
+use native.Mathlib.Omega.{arith}
+use native.Mathlib.Decide.{decLe}
+use lib.Bits.{bitAnd, bitXor, differ, and-le-l, and-shr, and-step, xor-lt, xor-shr, xor-step}
+use Rattle.morton.specs.Level.{Cell}
+use Rattle.morton.specs.Field.{bit, coord}
+use Rattle.morton.proofs.Dilated.{axes}
+use Rattle.morton.proofs.Fields.{bit-le, coord-child, key-cell, key-ext}
+use Rattle.geometry.proofs.Place.{key-suc}
+use Rattle.vertices.specs.Block.{near, Within}
+
+-- ---- bits of offsets
+
+and-bit : (a x y : ℕ) → bit a (bitAnd x y) ≡ min (bit a x) (bit a y)
+and-bit a x y = ap (λ (n : ℕ). n % 2) (and-shr x y a) ∙ omega (arith, and-step (x / 2 ^ a) (y / 2 ^ a))
+
+differ-bits : (x y : ℕ) → x ≤ 1 → y ≤ 1 → differ x y ≡ (x + y) % 2
+differ-bits zero y h l = omega arith
+differ-bits (suc zero) zero h l = omega arith
+differ-bits (suc zero) (suc zero) h l = omega arith
+differ-bits (suc zero) (suc (suc y)) h l = absurd (omega arith)
+differ-bits (suc (suc x)) y h l = absurd (omega arith)
+
+xor-bit : (a x y : ℕ) → bit a (bitXor x y) ≡ (bit a x + bit a y) % 2
+xor-bit a x y =
+    ap (λ (n : ℕ). n % 2) (xor-shr x y a) ∙ omega (arith, xor-step (x / 2 ^ a) (y / 2 ^ a), differ-bits (bit a x) (bit a y) (bit-le a x) (bit-le a y))
+
+-- the offset q taken from 7
+rest-bit : (q : ℕ) → q < 8 → (a : ℕ) → a < 3 → bit a (7 - q) ≡ 1 - bit a q
+rest-bit q h = axes (λ a. bit a (7 - q) ≡ 1 - bit a q) (omega arith) (omega arith) (omega arith)
+
+kept-bit : (a o q : ℕ) → a < 3 → q < 8 → bit a (bitAnd o (7 - q)) ≡ bit a o - bit a q
+kept-bit a o q l hq = omega (arith, and-bit a o (7 - q), rest-bit q hq a l, bit-le a o, bit-le a q)
+
+pub kept-lt : (o q : ℕ) → o < 8 → bitAnd o (7 - q) < 8
+kept-lt o q h = omega (arith, and-le-l o (7 - q))
+
+pub flip-lt : (q o : ℕ) → q < 8 → o < 8 → bitXor q o < 8
+flip-lt q o hq ho = xor-lt 3 q o hq ho
+
+bits-join : (w : ℕ) → w < 8 → bit 0 w + 2 * bit 1 w + 4 * bit 2 w ≡ w
+bits-join w h = omega arith
+
+-- an offset without bits
+pub no-bits : (o : ℕ) → o < 8 → ((a : ℕ) → a < 3 → bit a o ≡ 0) → o ≡ 0
+no-bits o h z = omega (arith, bits-join o h, z 0 (omega arith), z 1 (omega arith), z 2 (omega arith))
+
+-- ---- cells
+
+pub near-cell : (l c o : ℕ) → Cell l (near l c o)
+unfolding near
+near-cell l c o = key-cell l (λ a. coord l c a - bit a o)
+
+pub within-or-not : (l c o : ℕ) → Dec (Within l c o)
+unfolding Within
+within-or-not l c o =
+    elim (decLe (bit 0 o) (coord l c 0)) [
+      | no n ↦ no (λ w. n (w 0 (omega arith)))
+      | yes x ↦
+          elim (decLe (bit 1 o) (coord l c 1)) [
+            | no n ↦ no (λ w. n (w 1 (omega arith)))
+            | yes y ↦
+                elim (decLe (bit 2 o) (coord l c 2)) [
+                  | no n ↦ no (λ w. n (w 2 (omega arith)))
+                  | yes z ↦ yes (axes (λ a. bit a o ≤ coord l c a) x y z)
+                ]
+          ]
+    ]
+
+-- entry o of child q lies in entry o and not q of its parent, as the child q xor o
+module _ (l c q o : ℕ) (hq : q < 8) (ho : o < 8) where
+  pub within-up : Within (suc l) (8 * c + q) o → Within l c (bitAnd o (7 - q))
+  unfolding Within
+  within-up w a h = omega (arith, w a h, kept-bit a o q h hq, coord-child l c q a (omega arith) h, bit-le a o, bit-le a q)
+
+  pub within-down : Within l c (bitAnd o (7 - q)) → Within (suc l) (8 * c + q) o
+  unfolding Within
+  within-down w a h = omega (arith, w a h, kept-bit a o q h hq, coord-child l c q a (omega arith) h, bit-le a o, bit-le a q)
+
+  pub near-step : Within l c (bitAnd o (7 - q)) → near (suc l) (8 * c + q) o ≡ 8 * near l c (bitAnd o (7 - q)) + bitXor q o
+  unfolding near Within
+  near-step w =
+      key-suc l (λ a. coord (suc l) (8 * c + q) a - bit a o)
+      ∙ omega (
+        arith,
+        key-ext l (λ a. (coord (suc l) (8 * c + q) a - bit a o) / 2) (λ a. coord l c a - bit a (bitAnd o (7 - q))) half,
+        odd 0 (omega arith),
+        odd 1 (omega arith),
+        odd 2 (omega arith),
+        bits-join (bitXor q o) (flip-lt q o hq ho),
+      )
+    where
+      half : (a : ℕ) → a < 3 → (coord (suc l) (8 * c + q) a - bit a o) / 2 ≡ coord l c a - bit a (bitAnd o (7 - q))
+      half a h = omega (arith, w a h, kept-bit a o q h hq, coord-child l c q a (omega arith) h, bit-le a o, bit-le a q)
+
+      odd : (a : ℕ) → a < 3 → (coord (suc l) (8 * c + q) a - bit a o) % 2 ≡ bit a (bitXor q o)
+      odd a h =
+          omega (arith, w a h, kept-bit a o q h hq, xor-bit a q o, coord-child l c q a (omega arith) h, bit-le a o, bit-le a q)

@@ -1,0 +1,44 @@
+-- One answer only: two answers of `list` that meet its promise are the same, and so are the tables. Assumes nothing.
+use Prim.Native.Nat.{ℕ}
+use mathlib.Core.Path.{_≡_, sym, ap, ap₂, subst, _∙_}
+use mathlib.Core.Logic.{⊎-elim}
+use lib.ListN.{length}
+use Rattle.morton.proofs.One.{OnlyOne}
+use Rattle.tree.specs.Tree.{Tree}
+use Rattle.geometry.proofs.Listing.{listed-unique}
+use Rattle.vertices.specs.declared.ListAnswer.{ListAnswer}
+use Rattle.vertices.specs.declared.ListAnswer.the-variants as list
+use Rattle.vertices.specs.Listing.{Lists, written, Room, Wrote, Short, ListSays}
+
+module _ (t : Tree) (start : ℕ) (was : Lists) where
+  wrote-count : {n m : ℕ} {left right : Lists} → Wrote (t .leaves) start n was left → Wrote (t .leaves) start m was right → n ≡ m
+  wrote-count a b = a .count ∙ ap length (listed-unique (t .leaves) (a .vs) (a .ls) (b .vs) (b .ls) (a .listed) (b .listed) .0) ∙ sym (b .count)
+
+  wrote-lists : {n m : ℕ} {left right : Lists} → Wrote (t .leaves) start n was left → Wrote (t .leaves) start m was right → left ≡ right
+  wrote-lists {n} {m} {left} {right} a b =
+      let u : (a .vs ≡ b .vs) × (a .ls ≡ b .ls) = listed-unique (t .leaves) (a .vs) (a .ls) (b .vs) (b .ls) (a .listed) (b .listed) in
+      let v : left .vertices ≡ right .vertices = a .vertices-are ∙ ap (written (was .vertices) start) (u .0) ∙ sym (b .vertices-are) in
+      let l : left .levels ≡ right .levels = a .levels-are ∙ ap (written (was .levels) start) (u .1) ∙ sym (b .levels-are) in
+      λ i. record { vertices = v i; levels = l i }
+
+  -- what was written had room
+  not-short : {n : ℕ} {left : Lists} → Wrote (t .leaves) start n was left → Short (t .leaves) start was → ⊥
+  not-short a s =
+      s .no-room
+      (subst (λ (k : ℕ). Room start k was)
+      (a .count ∙ ap length (listed-unique (t .leaves) (a .vs) (a .ls) (s .vs) (s .ls) (a .listed) (s .listed) .0)) (a .room))
+
+  -- nor was it refused
+  not-listed : {n k : ℕ} {left right : Lists} → ListSays t start was left (list.Count n) → ListSays t start was right (list.Refused k) → ⊥
+  not-listed a b = ⊎-elim (λ x. x .0 (a .0)) (λ x. not-short (a .1) (x .1)) (b .1)
+
+  pub list-one : OnlyOne (λ (o : Lists × ListAnswer). ListSays t start was (o .0) (o .1))
+  list-one (left, list.Count n) (right, list.Count m) a b = ap₂ (λ (x : Lists) (y : ListAnswer). (x, y)) (wrote-lists (a .1) (b .1)) (ap list.Count (wrote-count (a .1) (b .1)))
+  list-one (left, list.Count n) (right, list.Refused k) a b = absurd (not-listed a b)
+  list-one (left, list.Refused k) (right, list.Count n) a b = absurd (not-listed b a)
+  list-one (left, list.Refused k) (right, list.Refused j) a b =
+      ap₂ (λ (x : Lists) (y : ListAnswer). (x, y)) (a .0 ∙ sym (b .0))
+      (ap list.Refused (⊎-elim
+      (λ x. ⊎-elim (λ y. x .1 ∙ sym (y .1)) (λ y. absurd (x .0 (y .0))) (b .1))
+      (λ x. ⊎-elim (λ y. absurd (y .0 (x .0))) (λ y. x .2 ∙ sym (y .2)) (b .1))
+      (a .1)))

@@ -1,0 +1,82 @@
+-- `split_below` meets its contract: a turn puts eight bits over those before. Assumes nothing.
+use Prim.Native.Nat.{_-_, _≤_}
+use mathlib.Core.Path.{sym, _∙_}
+use native.Mathlib.Omega.{arith}
+use borrow.Author.Needs.{needs}
+use Rattle.vertices.specs.Block.{marked}
+use Rattle.vertices.proofs.Marks.{Stacked, stacked-none, stacked-yes, stacked-no, stacked-fits, stacked-all}
+use Rattle.vertices.proofs.split_below.Statement.{statement}
+use Rattle.vertices.proofs.split_below.Tie as tie
+
+abbrev Inv-loop : tie.InvT-loop
+Inv-loop keys mask block below₀ o₀ below o = (o ≤ 8) × Stacked keys block mask o below
+
+abbrev μ-loop : tie.MeasureT-loop
+μ-loop keys mask block below₀ o₀ below o = 8 - o
+
+loop-holds : tie.Need-loop-holds Inv-loop μ-loop
+loop-holds c = (omega arith, stacked-none _ _ _)
+
+marked-requires : tie.Need-marked-requires Inv-loop μ-loop
+marked-requires c κs = search needs
+
+mul-split-children : tie.Need-mul-split-children Inv-loop μ-loop
+mul-split-children c = search needs
+
+array-read-split-children : tie.Need-array-read-split-children Inv-loop μ-loop
+array-read-split-children c = search needs
+
+split-children-requires : tie.Need-split-children-requires Inv-loop μ-loop
+split-children-requires c κs = let s = c .before .before .before .before .before in (s .pre .0, s .pre .1 (c .before .before .before .loop .o) (omega arith) (sym (c .before .marked .ensures) ∙ c .if1 .taken))
+
+mul-below : tie.Need-mul-below Inv-loop μ-loop
+mul-below c = search needs
+
+shl-below : tie.Need-shl-below Inv-loop μ-loop
+shl-below c = search needs
+
+add-below : tie.Need-add-below Inv-loop μ-loop
+add-below c = let l = c .before .before .before .before .loop in record { fits = stacked-fits _ _ _ (l .o) (l .below) (l .inv .1) (c .split-children .result) (omega arith) (c .split-children .ensures) }
+
+add-o : tie.Need-add-o Inv-loop μ-loop
+add-o c = search needs
+
+loop-less : tie.Need-loop-less Inv-loop μ-loop
+loop-less c = search needs
+
+loop-again : tie.Need-loop-again Inv-loop μ-loop
+loop-again c = let l = c .before .before .before .before .loop in (omega arith, stacked-yes _ _ _ (l .o) (l .below) (l .inv .1) (c .split-children .result) (omega arith) (c .split-children .ensures))
+
+add-o-2 : tie.Need-add-o-2 Inv-loop μ-loop
+add-o-2 c = search needs
+
+loop-less-2 : tie.Need-loop-less-2 Inv-loop μ-loop
+loop-less-2 c = search needs
+
+loop-again-2 : tie.Need-loop-again-2 Inv-loop μ-loop
+loop-again-2 c = let l = c .before .before .before .loop in (omega arith, stacked-no _ _ _ (l .o) (l .below) (l .inv .1) (sym (c .before .marked .ensures) ∙ c .if1 .left))
+
+returns : tie.Need-returns Inv-loop μ-loop
+returns c = stacked-all _ _ _ (c .before .loop .o) _ (omega arith) (c .before .loop .inv .1)
+
+pub split-below-spec : {M : Type 1} → statement M
+split-below-spec =
+    tie.close
+    (tie.spec
+    Inv-loop
+    μ-loop
+    loop-holds
+    marked-requires
+    mul-split-children
+    array-read-split-children
+    split-children-requires
+    mul-below
+    shl-below
+    add-below
+    add-o
+    loop-less
+    loop-again
+    add-o-2
+    loop-less-2
+    loop-again-2
+    returns)

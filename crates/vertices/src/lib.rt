@@ -1,0 +1,281 @@
+// The vertices of a finished tree. From `compute_primal_vertices` in src/linear_hashed_marching_cubes.rs of isosurface 0.0.4.
+use morton::Key;
+ghost use mathlib.Core.Path.{_≡_};
+ghost use Prim.Native.Nat.{_+_, _-_, _*_, _^_, _<_, _≤_};
+ghost use Rattle.morton.specs.Level.{deepest, limit, Cell};
+ghost use Rattle.tree.specs.Tree.{treeOf, In, Decides};
+ghost use Rattle.vertices.specs.Block.{marked, ChildMarks, BelowMarks, Lowered, LoweredMarks};
+ghost use Rattle.vertices.specs.Listing.{listsOf, ListSays};
+ghost use Rattle.vertices.specs.Walk.{SoundKeys, Splits, Small, Full, Fine, Meets, Here, lowCorner, PutSays, Walked, SoundSays};
+
+// How many vertices there are, or the number of the refusal.
+pub enum ListAnswer {
+    Count(usize),
+    Refused(u32),
+}
+
+// The vertex list goes over the cells from the root down, by blocks of eight nodes (specs/Block.antt), and so finds the vertices in order. A block
+// comes with a mask of its split entries: bit o is set where entry o has the cell's own level and children. Where none has, the walk ends: the
+// cell's low corner is listed, or nothing is.
+
+// Whether bit i of a mask is set.
+fn marked(mask: u64, i: usize) -> bool
+    requires { ⌜ i < 64 ⌝ }
+    ensures { λ r. ⌜ r ≡ marked mask i ⌝ }
+{
+    (mask >> i) % 2 == 1
+}
+
+// Which children of a split node are split themselves. The children of those follow one another, so one search is enough.
+fn split_children(keys: &[u64], node: u64) -> u64
+    requires { ⌜ SoundKeys (now keys) ⌝ }
+    requires { ⌜ In (8 * node) (now keys) ⌝ }
+    ensures { λ r. ⌜ ChildMarks (now (keys .entry)) node r ⌝ }
+{
+    let mut at = tree::first_from(keys, 64 * node);
+    let mut mask = 0;
+    let mut w: usize = 0;
+    while w < 8 {
+        if tree::stands(keys, at, 64 * node + 8 * w as u64) {
+            mask += 1 << w;
+            at += 8;
+            w += 1;
+        } else {
+            w += 1;
+        }
+    }
+    mask
+}
+
+// The same for each split entry of a block, eight bits for each entry.
+fn split_below(keys: &[u64], block: [u64; 8], mask: u64) -> u64
+    requires { ⌜ SoundKeys (now keys) ⌝ }
+    requires { ⌜ Splits (now keys) block mask ⌝ }
+    ensures { λ r. ⌜ BelowMarks (now (keys .entry)) block mask r ⌝ }
+{
+    let mut below = 0;
+    let mut o: usize = 0;
+    while o < 8 {
+        if marked(mask, o) {
+            below += split_children(keys, block[o]) << (8 * o);
+            o += 1;
+        } else {
+            o += 1;
+        }
+    }
+    below
+}
+
+// The block of child q.
+fn lower(block: [u64; 8], mask: u64, q: usize) -> [u64; 8]
+    requires { ⌜ Small block mask ⌝ }
+    requires { ⌜ q < 8 ⌝ }
+    ensures { λ r. ⌜ Lowered block mask q r ⌝ }
+{
+    let mut out = [0u64; 8];
+    let mut o: usize = 0;
+    while o < 8 {
+        let i = o & (7 - q);
+        if marked(mask, i) {
+            out[o] = 8 * block[i] + (q ^ o) as u64;
+            o += 1;
+        } else {
+            out[o] = block[i];
+            o += 1;
+        }
+    }
+    out
+}
+
+// Its mask.
+fn lower_mask(mask: u64, below: u64, q: usize) -> u64
+    requires { ⌜ q < 8 ⌝ }
+    ensures { λ r. ⌜ LoweredMarks mask below q r ⌝ }
+{
+    let mut out = 0;
+    let mut o: usize = 0;
+    while o < 8 {
+        let i = o & (7 - q);
+        if marked(mask, i) {
+            if marked(below, 8 * i + (q ^ o)) {
+                out += 1 << o;
+                o += 1;
+            } else {
+                o += 1;
+            }
+        } else {
+            o += 1;
+        }
+    }
+    out
+}
+
+// Whether all eight are nodes.
+fn full(block: [u64; 8]) -> bool
+    ensures { λ r. ⌜ Decides r (Full block) ⌝ }
+{
+    let mut o = 0;
+    while o < 8 {
+        if block[o] == 0 {
+            return false;
+        }
+        o += 1;
+    }
+    true
+}
+
+// Whether one of them has this level.
+fn fine(level: u8, block: [u64; 8]) -> bool
+    requires { ⌜ level ≤ limit ⌝ }
+    ensures { λ r. ⌜ Decides r (Fine level block) ⌝ }
+{
+    let low: u64 = 1 << (level * 3);
+    let mut o = 0;
+    while o < 8 {
+        if block[o] >= low {
+            return true;
+        }
+        o += 1;
+    }
+    false
+}
+
+// Whether the low corner of a cell with no split entry is listed.
+fn meets(level: u8, block: [u64; 8]) -> bool
+    requires { ⌜ level ≤ limit ⌝ }
+    ensures { λ r. ⌜ Decides r (Meets level block) ⌝ }
+{
+    if !full(block) {
+        return false;
+    }
+    if !fine(level, block) {
+        return false;
+    }
+    true
+}
+
+// The low corner of a cell.
+fn low_corner(level: u8, cell: u64) -> u64
+    requires { ⌜ level ≤ limit ⌝ }
+    requires { ⌜ Cell level cell ⌝ }
+    ensures { λ r. ⌜ r ≡ lowCorner level cell ⌝ }
+{
+    cell << (63 - level * 3)
+}
+
+// Writes a vertex and its level at a place, if both tables have it.
+fn put(vertices: &mut [u64], levels: &mut [u8], at: usize, vertex: u64, level: u8)
+    ensures { λ _. ⌜ PutSays (now (vertices .entry)) (now (levels .entry)) at vertex level (now (vertices .exit)) (now (levels .exit)) ⌝ }
+{
+    if at < vertices.len() {
+        if at < levels.len() {
+            vertices[at] = vertex;
+            levels[at] = level;
+        }
+    }
+}
+
+// Writes the listed vertices of a cell from place at on, as far as both tables go; the place after the last, had they room.
+fn walk(
+    keys: &[u64],
+    level: u8,
+    cell: u64,
+    block: [u64; 8],
+    mask: u64,
+    vertices: &mut [u64],
+    levels: &mut [u8],
+    at: usize,
+) -> usize
+    requires { ⌜ SoundKeys (now keys) ⌝ }
+    requires { ⌜ Here (now keys) level cell block mask ⌝ }
+    requires { ⌜ at + 8 ^ (deepest - level) < 2 ^ 64 ⌝ }
+    ensures { λ r. ⌜ Walked (now (keys .entry)) (lowCorner level cell) (lowCorner level (cell + 1)) at r (now (vertices .entry)) (now (levels .entry)) (now (vertices .exit)) (now (levels .exit)) ⌝ }
+{
+    if mask == 0 {
+        if !meets(level, block) {
+            return at;
+        }
+        put(vertices, levels, at, low_corner(level, cell), level);
+        return at + 1;
+    }
+    let below = split_below(keys, block, mask);
+    let mut n = at;
+    let mut q: usize = 0;
+    while q < 8 {
+        let child = lower(block, mask, q);
+        let child_mask = lower_mask(mask, below, q);
+        n = walk(
+            keys,
+            level + 1,
+            8 * cell + q as u64,
+            child,
+            child_mask,
+            vertices,
+            levels,
+            n,
+        );
+        q += 1;
+    }
+    n
+}
+
+// Lists the whole tree from the tables' first place on; the number of its vertices.
+fn whole(keys: &[u64], vertices: &mut [u64], levels: &mut [u8]) -> usize
+    requires { ⌜ SoundKeys (now keys) ⌝ }
+    ensures { λ r. ⌜ Walked (now (keys .entry)) (lowCorner 0 1) (lowCorner 0 2) 0 r (now (vertices .entry)) (now (levels .entry)) (now (vertices .exit)) (now (levels .exit)) ⌝ }
+{
+    let root = [1, 0, 0, 0, 0, 0, 0, 0];
+    let at = tree::first_from(keys, 8);
+    if tree::stands(keys, at, 8) {
+        return walk(keys, 0, 1, root, 1, vertices, levels, 0);
+    }
+    walk(keys, 0, 1, root, 0, vertices, levels, 0)
+}
+
+// Whether n places from a start place on lie in a table.
+fn has_room(len: usize, start: usize, n: usize) -> bool
+    ensures { λ r. ⌜ Decides r (start + n ≤ len) ⌝ }
+{
+    if len < start {
+        return false;
+    }
+    if len - start < n {
+        return false;
+    }
+    true
+}
+
+// The list of a sound tree's vertices. They are counted first, into tables that don't leave the call.
+fn list_sound(keys: &[u64], start: usize, vertices: &mut [u64], levels: &mut [u8]) -> ListAnswer
+    requires { ⌜ SoundKeys (now keys) ⌝ }
+    ensures { λ r. ⌜ SoundSays (now (keys .entry)) start (listsOf (now (vertices .entry)) (now (levels .entry))) (listsOf (now (vertices .exit)) (now (levels .exit))) r ⌝ }
+{
+    let mut no_vertices = [0u64; 1];
+    let mut no_levels = [0u8; 1];
+    let n = whole(keys, &mut no_vertices, &mut no_levels);
+    if !has_room(vertices.len(), start, n) {
+        return ListAnswer::Refused(12);
+    }
+    if !has_room(levels.len(), start, n) {
+        return ListAnswer::Refused(12);
+    }
+    let m = whole(keys, &mut vertices[start..], &mut levels[start..]);
+    ListAnswer::Count(m)
+}
+
+// The list of a tree's vertices, written from a start place on.
+pub fn list(
+    keys: &[u64],
+    distances: &[f32],
+    leaves: &[u64],
+    start: usize,
+    vertices: &mut [u64],
+    levels: &mut [u8],
+) -> ListAnswer
+    ensures { λ r. ⌜ ListSays (treeOf (now (keys .entry)) (now (distances .entry)) (now (leaves .entry))) start (listsOf (now (vertices .entry)) (now (levels .entry))) (listsOf (now (vertices .exit)) (now (levels .exit))) r ⌝ }
+{
+    if !tree::sound(keys, distances, leaves) {
+        return ListAnswer::Refused(11);
+    }
+    list_sound(keys, start, vertices, levels)
+}
