@@ -1,6 +1,6 @@
 -- What a state that fits knows, and what an accepted call stands on. Assumes nothing.
 use Prim.Native.Nat.{ℕ, _+_, _-_, _*_, _^_, _≤_, _<_}
-use mathlib.Core.Path.{_≡_, refl, _∙_, subst}
+use mathlib.Core.Path.{_≡_, refl, sym, _∙_, subst}
 use mathlib.Core.Bool.{Bool, true, false, cond, _||_, _&&_, not}
 use native.Mathlib.Omega.{arith}
 use lib.Dec.{eqb, leb, ltb}
@@ -13,8 +13,8 @@ use Rattle.build.specs.declared.Answer.{Answer}
 use Rattle.build.specs.declared.Answer.the-variants.{Refused}
 use Rattle.build.specs.declared.Lengths.{Lengths}
 use Rattle.build.specs.declared.State.{State}
-use Rattle.build.specs.Build.{Tables, Ready, outcome, lengthsOf, nodeRoom, finest, cellTo, leavesOf}
-use Rattle.build.specs.Build.{sameLengths, countsFit, idleFits, busyFits, fitsAt, fullOf, refusalAt, refusalOf, storedOf, advanceOf, decideOf, acceptOf}
+use Rattle.build.specs.Build.{Tables, Ready, Outcome, outcome, lengthsOf, nodeRoom, finest, cellTo, leavesOf}
+use Rattle.build.specs.Build.{sameLengths, countsFit, idleFits, busyFits, fitsAt, fullOf, refusalAt, refusalOf, splitOf, storedOf, advanceOf, decideOf, acceptOf, distanceOf}
 
 -- ---- cell keys of bounded level
 
@@ -186,3 +186,17 @@ ready s split t h =
       leaf-room = λ n. let l = full-leaf s (subst (λ (b : Bool). fullOf s b ≡ 0) n (p .full)) in omega (arith, k .leaf-room, e .leaves);
       ring-room = λ n. let l = full-ring s (subst (λ (b : Bool). fullOf s b ≡ 0) n (p .full)) in omega (arith, e .queue);
     }
+
+-- ---- a call, by the number that it found
+
+module _ (s : State) (t : Tables) (split : Bool) (k : ℕ) (e : k ≡ refusalOf s split t) where
+  pub call-ready : k ≡ 0 → Ready s split t
+  call-ready z = ready s split t (sym e ∙ z)
+
+  pub call-refused : (d : Float) → split ≡ splitOf s d → (k ≡ 0 → ⊥) → outcome (Refused k) t ≡ distanceOf s d t
+  unfolding distanceOf
+  call-refused d f n = rw (← f) (refused s split d t k e n)
+
+  pub call-accepted : (d : Float) → split ≡ splitOf s d → k ≡ 0 → (o : Outcome) → o ≡ acceptOf s split d t → o ≡ distanceOf s d t
+  unfolding distanceOf
+  call-accepted d f z o a = rw (← f) (a ∙ accepted s split d t (sym e ∙ z))

@@ -5,7 +5,7 @@ ghost use mathlib.Core.Path.{_≡_};
 ghost use Prim.Native.Nat.{_+_, _*_, _%_, _<_, _≤_, _^_, min};
 ghost use lib.ListN.{length};
 ghost use Rattle.build.specs.Build.{tablesOf, lengthsOf, nodeRoom, finest, itemAt, requestOf, cellTo, Ready};
-ghost use Rattle.build.specs.Build.{sameLengths, countsFit, idleFits, busyFits, fitsAt, fullOf, refusalAt, splitOf};
+ghost use Rattle.build.specs.Build.{sameLengths, countsFit, idleFits, busyFits, fitsAt, fullOf, refusalAt, refusalOf, splitOf};
 ghost use Rattle.build.specs.Build.{childrenTo, leavesOf, storedOf, advanceOf, acceptOf, distanceOf, startOf, outcome};
 
 // No build has more nodes.
@@ -231,7 +231,7 @@ fn full(s: State, split: bool) -> u32
 }
 
 // The number given for no, or 0.
-fn refusal(s: State, z: Lengths, next: u64, split: bool, room: usize, top: u32) -> u32
+fn refusal_at(s: State, z: Lengths, next: u64, split: bool, room: usize, top: u32) -> u32
     requires { ⌜ room ≤ 4096 ⌝ }
     ensures { λ r. ⌜ r ≡ refusalAt s z next split room top ⌝ }
 {
@@ -256,6 +256,23 @@ fn lengths_of(keys: &[u64], distances: &[f32], leaves: &[u64], queue: &[u64]) ->
         leaves: leaves.len(),
         queue: queue.len(),
     }
+}
+
+fn refusal_of(
+    s: State,
+    split: bool,
+    keys: &[u64],
+    distances: &[f32],
+    leaves: &[u64],
+    queue: &[u64],
+) -> u32
+    ensures { λ r. ⌜ r ≡ refusalOf s split (tablesOf (now (keys .entry)) (now (distances .entry)) (now (leaves .entry)) (now (queue .entry))) ⌝ }
+{
+    let z = lengths_of(keys, distances, leaves, queue);
+    let next = item_at(queue, s.nodes);
+    let room = node_room(z);
+    let top = finest_level(s.bound);
+    refusal_at(s, z, next, split, room, top)
 }
 
 // Begins a build over tables of these lengths: the root is asked for first.
@@ -385,12 +402,8 @@ pub fn distance(
         outcome r (tablesOf (now (keys .exit)) (now (distances .exit)) (now (leaves .exit)) (now (queue .exit)))
         ≡ distanceOf s distance (tablesOf (now (keys .entry)) (now (distances .entry)) (now (leaves .entry)) (now (queue .entry))) ⌝ }
 {
-    let z = lengths_of(keys, distances, leaves, queue);
-    let next = item_at(queue, s.nodes);
-    let room = node_room(z);
-    let top = finest_level(s.bound);
     let split = is_split(s, distance);
-    let number = refusal(s, z, next, split, room, top);
+    let number = refusal_of(s, split, keys, distances, leaves, queue);
     if number != 0 {
         return Answer::Refused(number);
     }

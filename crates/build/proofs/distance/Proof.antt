@@ -1,41 +1,14 @@
 -- `distance` meets its contract: it is refused with the number, or accepted. Assumes nothing.
-use denote.Ref.{now}
-use mathlib.Core.Path.{_≡_, sym, _∙_}
-use Rattle.build.specs.Build.{tablesOf, nodeRoom, refusalOf, splitOf, distanceOf}
-use Rattle.build.proofs.Laws.{refused, accepted, ready}
-use native.Mathlib.Omega.{arith}
+use Rattle.build.proofs.Laws.{call-ready, call-refused, call-accepted}
 use borrow.Author.Needs.{needs}
 use Rattle.build.proofs.distance.Statement.{statement}
 use Rattle.build.proofs.distance.Tie as tie
 
-lengths-of-requires : tie.Need-lengths-of-requires
-lengths-of-requires c κs = search needs
-
-item-at-requires : tie.Need-item-at-requires
-item-at-requires c κs = search needs
-
-node-room-requires : tie.Need-node-room-requires
-node-room-requires c κs = search needs
-
-finest-level-requires : tie.Need-finest-level-requires
-finest-level-requires c κs = search needs
-
 is-split-requires : tie.Need-is-split-requires
 is-split-requires c κs = search needs
 
-refusal-requires : tie.Need-refusal-requires
-unfolding nodeRoom
-refusal-requires c κs = omega arith
-
--- what the calls gave is what the definitions say
-split-is : (c : tie.After-is-split) → let a = c .before .before .before .before .before .before .before .before .before .before .before .before .before .before .args in c .is-split .result ≡ splitOf (a .s) (a .distance)
-split-is c = cc
-
-number-is : (c : tie.After-refusal)
-    → let a = c .before .before .before .before .before .before .before .before .before .before .before .before .before .before .before .args in
-    c .refusal .result ≡ refusalOf (a .s) (c .before .is-split .result) (tablesOf (now (a .keys)) (now (a .distances)) (now (a .leaves)) (now (a .queue)))
-unfolding refusalOf
-number-is c = cc
+refusal-of-requires : tie.Need-refusal-of-requires
+refusal-of-requires c κs = search needs
 
 same-length : tie.Need-same-length
 same-length c = search needs
@@ -50,11 +23,10 @@ same-length-4 : tie.Need-same-length-4
 same-length-4 c = search needs
 
 returns : tie.Need-returns
-unfolding distanceOf
-returns c = rw (← split-is (c .before .before)) (refused _ _ _ _ _ (number-is (c .before)) (c .if1 .taken))
+returns c = call-refused _ _ _ _ (c .before .refusal-of .ensures) _ (c .before .before .before .before .before .before .is-split .ensures) (c .if1 .taken)
 
 accept-requires : tie.Need-accept-requires
-accept-requires c κs = ready _ _ _ (sym (number-is (c .before .before .before .before .before)) ∙ c .before .before .before .before .if1 .left)
+accept-requires c κs = call-ready _ _ _ _ (c .before .before .before .before .before .refusal-of .ensures) (c .before .before .before .before .if1 .left)
 
 same-length-5 : tie.Need-same-length-5
 same-length-5 c = search needs
@@ -69,19 +41,14 @@ same-length-8 : tie.Need-same-length-8
 same-length-8 c = search needs
 
 returns-2 : tie.Need-returns-2
-unfolding distanceOf
-returns-2 c = let r = c .before .before .before .before .before .before .before .before .before .before .before .before .before .before in rw (← split-is (r .before)) (c .before .before .before .before .before .before .before .before .accept .ensures ∙ accepted _ _ _ _ (sym (number-is r) ∙ c .before .before .before .before .before .before .before .before .before .before .before .before .before .if1 .left))
+returns-2 c = call-accepted _ _ _ _ (c .before .before .before .before .before .before .before .before .before .before .before .before .before .before .refusal-of .ensures) _ (c .before .before .before .before .before .before .before .before .before .before .before .before .before .before .before .before .before .before .before .is-split .ensures) (c .before .before .before .before .before .before .before .before .before .before .before .before .before .if1 .left) _ (c .before .before .before .before .before .before .before .before .accept .ensures)
 
 pub distance-spec : {M : Type 1} → statement M
 distance-spec =
     tie.close
     (tie.spec
-    lengths-of-requires
-    item-at-requires
-    node-room-requires
-    finest-level-requires
     is-split-requires
-    refusal-requires
+    refusal-of-requires
     same-length
     same-length-2
     same-length-3

@@ -1,11 +1,11 @@
--- `refusal` meets its contract, test by test. Assumes nothing.
+-- `refusal_at` meets its contract, test by test. Assumes nothing.
 use Rattle.build.proofs.Walk.{via-not-false, called}
 use Rattle.build.proofs.Laws.{asked}
 use native.Mathlib.Omega.{arith}
 use Rattle.build.specs.Build.{refusalAt}
 use borrow.Author.Needs.{needs}
-use Rattle.build.proofs.refusal.Statement.{statement}
-use Rattle.build.proofs.refusal.Tie as tie
+use Rattle.build.proofs.refusal_at.Statement.{statement}
+use Rattle.build.proofs.refusal_at.Tie as tie
 
 fits-at-requires : tie.Need-fits-at-requires
 fits-at-requires c κs = search needs
@@ -29,6 +29,6 @@ returns-4 : tie.Need-returns-4
 unfolding refusalAt
 returns-4 c = search called
 
-pub refusal-spec : {M : Type 1} → statement M
-refusal-spec =
+pub refusal-at-spec : {M : Type 1} → statement M
+refusal-at-spec =
     tie.close (tie.spec fits-at-requires returns returns-2 returns-3 full-requires returns-4)
