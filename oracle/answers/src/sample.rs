@@ -1,5 +1,6 @@
-//! The fixed sample: some thousands of questions with the integer build's answers, which a Rattle program replays, so that no
-//! Rust is needed to test. Where the text has no answer, the model has it; where both have one, they must agree.
+//! The fixed sample: some thousands of questions with the integer build's answers, which two Rattle programs replay, so that no
+//! Rust is needed to test: `replay` the keys and builds, `reread` the reading of a tree, whose lines come last. Where the text
+//! has no answer, the model has it; where both have one, they must agree.
 //!
 //! A line is `OP A B C ST X Y Z`: call, three parameters, refusal (00: accepted) and three results, in hexadecimal. What a call
 //! doesn't use is 0, and so are the results of a refusal.

@@ -1,21 +1,28 @@
-//! The fixed sample that the Rattle program `replay` reads is what the oracle says today.
+//! The fixed sample that the Rattle programs `replay` and `reread` read is what the oracle says today.
 
 use oracle_answers::{compares_with_text, sample};
 use std::fs;
 use std::path::Path;
 
+/// The part of the sample that a program reads.
+fn part(program: &str) -> String {
+    let path = Path::new(env!("CARGO_MANIFEST_DIR")).join("../../crates").join(program).join("stdin");
+    fs::read_to_string(&path).unwrap_or_else(|e| panic!("{}: {e}: make it with tools/sample", path.display()))
+}
+
 #[test]
-fn the_file_is_the_generated_one() {
+fn the_parts_are_the_generated_sample() {
     if !compares_with_text() {
         return;
     }
-    let path = Path::new(env!("CARGO_MANIFEST_DIR")).join("../../crates/replay/stdin");
-    let file = fs::read_to_string(&path).unwrap_or_else(|e| panic!("{}: {e}: make it with tools/sample", path.display()));
+    let (keys, trees) = (part("replay"), part("reread"));
+    assert!(keys.lines().all(|line| line < "10") && trees.lines().all(|line| line >= "10"));
+    let both = keys + &trees;
     let fresh = sample::text();
-    for (number, (held, new)) in file.lines().zip(fresh.lines()).enumerate() {
-        assert_eq!(held, new, "line {} of {} is not the oracle's: make it anew with tools/sample", number + 1, path.display());
+    for (number, (held, new)) in both.lines().zip(fresh.lines()).enumerate() {
+        assert_eq!(held, new, "line {} of the sample is not the oracle's: make it anew with tools/sample", number + 1);
     }
-    assert_eq!(file.len(), fresh.len());
+    assert_eq!(both.len(), fresh.len());
     assert!(fresh.lines().all(|line| line.len() == 107));
 }
 

@@ -1,4 +1,4 @@
--- `replay` is safe and ends. The measure is the number of lines that it still takes; the tables keep their lengths. Assumes nothing.
+-- `replay` is safe and ends. The measure is the number of lines that it still takes. Assumes nothing.
 use borrow.Author.Needs.{needs}
 use lib.ListN.{length}
 use mathlib.Core.List.{List}
@@ -6,24 +6,45 @@ use mathlib.Core.Path.{_≡_, refl}
 use Rattle.replay.proofs.replay.Statement.{statement}
 use Rattle.replay.proofs.replay.Tie as tie
 
-abbrev Same : {A : Type 0} → List A → List A → Type 0
-Same xs ys = length xs ≡ length ys
+abbrev Whole : {A : Type 0} → List A → Type 0
+Whole xs = length xs ≡ 1024
 
 abbrev Inv-loop : tie.InvT-loop
-Inv-loop keys₀ distances₀ leaves₀ queue₀ p₀ left₀ keys distances leaves queue p left =
-    Same keys keys₀ × Same distances distances₀ × Same leaves leaves₀ × Same queue queue₀
+Inv-loop keys₀ distances₀ leaves₀ queue₀ state₀ tally₀ left₀ keys distances leaves queue state tally left =
+    Whole keys × Whole distances × Whole leaves × Whole queue
 
 abbrev μ-loop : tie.MeasureT-loop
-μ-loop keys₀ distances₀ leaves₀ queue₀ p₀ left₀ keys distances leaves queue p left = left
+μ-loop keys₀ distances₀ leaves₀ queue₀ state₀ tally₀ left₀ keys distances leaves queue state tally left = left
 
-begin-requires : tie.Need-begin-requires Inv-loop μ-loop
-begin-requires c κs = search needs
+idle-requires : tie.Need-idle-requires Inv-loop μ-loop
+idle-requires c κs = search needs
 
 loop-holds : tie.Need-loop-holds Inv-loop μ-loop
 loop-holds c = (refl, refl, refl, refl)
 
-pass-line-requires : tie.Need-pass-line-requires Inv-loop μ-loop
-pass-line-requires c κs = search needs
+read-line-requires : tie.Need-read-line-requires Inv-loop μ-loop
+read-line-requires c κs = search needs
+
+returns : tie.Need-returns Inv-loop μ-loop
+returns c = search needs
+
+slice-aggregate-start : tie.Need-slice-aggregate-start Inv-loop μ-loop
+slice-aggregate-start c = search needs
+
+slice-aggregate-start-2 : tie.Need-slice-aggregate-start-2 Inv-loop μ-loop
+slice-aggregate-start-2 c = search needs
+
+slice-aggregate-start-3 : tie.Need-slice-aggregate-start-3 Inv-loop μ-loop
+slice-aggregate-start-3 c = search needs
+
+slice-aggregate-start-4 : tie.Need-slice-aggregate-start-4 Inv-loop μ-loop
+slice-aggregate-start-4 c = search needs
+
+start-requires : tie.Need-start-requires Inv-loop μ-loop
+start-requires c κs = search needs
+
+counted-requires : tie.Need-counted-requires Inv-loop μ-loop
+counted-requires c κs = search needs
 
 sub-left : tie.Need-sub-left Inv-loop μ-loop
 sub-left c = search needs
@@ -34,26 +55,62 @@ loop-less c = search needs
 loop-again : tie.Need-loop-again Inv-loop μ-loop
 loop-again c = search needs
 
+slice-aggregate-distance : tie.Need-slice-aggregate-distance Inv-loop μ-loop
+slice-aggregate-distance c = search needs
+
+slice-aggregate-distance-2 : tie.Need-slice-aggregate-distance-2 Inv-loop μ-loop
+slice-aggregate-distance-2 c = search needs
+
+slice-aggregate-distance-3 : tie.Need-slice-aggregate-distance-3 Inv-loop μ-loop
+slice-aggregate-distance-3 c = search needs
+
+slice-aggregate-distance-4 : tie.Need-slice-aggregate-distance-4 Inv-loop μ-loop
+slice-aggregate-distance-4 c = search needs
+
+distance-requires : tie.Need-distance-requires Inv-loop μ-loop
+distance-requires c κs = search needs
+
+counted-requires-2 : tie.Need-counted-requires-2 Inv-loop μ-loop
+counted-requires-2 c κs = search needs
+
+sub-left-2 : tie.Need-sub-left-2 Inv-loop μ-loop
+sub-left-2 c = search needs
+
 loop-less-2 : tie.Need-loop-less-2 Inv-loop μ-loop
 loop-less-2 c = search needs
 
 loop-again-2 : tie.Need-loop-again-2 Inv-loop μ-loop
 loop-again-2 c = search needs
 
-same-length : tie.Need-same-length Inv-loop μ-loop
-same-length c = c .before .before .loop .inv .0
+slice-aggregate-reads : tie.Need-slice-aggregate-reads Inv-loop μ-loop
+slice-aggregate-reads c = search needs
 
-same-length-2 : tie.Need-same-length-2 Inv-loop μ-loop
-same-length-2 c = c .before .before .loop .inv .1
+slice-aggregate-reads-2 : tie.Need-slice-aggregate-reads-2 Inv-loop μ-loop
+slice-aggregate-reads-2 c = search needs
 
-same-length-3 : tie.Need-same-length-3 Inv-loop μ-loop
-same-length-3 c = c .before .before .loop .inv .2
+slice-aggregate-reads-3 : tie.Need-slice-aggregate-reads-3 Inv-loop μ-loop
+slice-aggregate-reads-3 c = search needs
 
-same-length-4 : tie.Need-same-length-4 Inv-loop μ-loop
-same-length-4 c = c .before .before .loop .inv .3
+slice-aggregate-reads-4 : tie.Need-slice-aggregate-reads-4 Inv-loop μ-loop
+slice-aggregate-reads-4 c = search needs
 
-returns : tie.Need-returns Inv-loop μ-loop
-returns c = search needs
+reads-requires : tie.Need-reads-requires Inv-loop μ-loop
+reads-requires c κs = search needs
+
+counted-requires-3 : tie.Need-counted-requires-3 Inv-loop μ-loop
+counted-requires-3 c κs = search needs
+
+sub-left-3 : tie.Need-sub-left-3 Inv-loop μ-loop
+sub-left-3 c = search needs
+
+loop-less-3 : tie.Need-loop-less-3 Inv-loop μ-loop
+loop-less-3 c = search needs
+
+loop-again-3 : tie.Need-loop-again-3 Inv-loop μ-loop
+loop-again-3 c = search needs
+
+returns-2 : tie.Need-returns-2 Inv-loop μ-loop
+returns-2 c = search needs
 
 pub replay-spec : {M : Type 1} → statement M
 replay-spec =
@@ -61,16 +118,35 @@ replay-spec =
     (tie.spec
     Inv-loop
     μ-loop
-    begin-requires
+    idle-requires
     loop-holds
-    pass-line-requires
+    read-line-requires
+    returns
+    slice-aggregate-start
+    slice-aggregate-start-2
+    slice-aggregate-start-3
+    slice-aggregate-start-4
+    start-requires
+    counted-requires
     sub-left
     loop-less
     loop-again
+    slice-aggregate-distance
+    slice-aggregate-distance-2
+    slice-aggregate-distance-3
+    slice-aggregate-distance-4
+    distance-requires
+    counted-requires-2
+    sub-left-2
     loop-less-2
     loop-again-2
-    same-length
-    same-length-2
-    same-length-3
-    same-length-4
-    returns)
+    slice-aggregate-reads
+    slice-aggregate-reads-2
+    slice-aggregate-reads-3
+    slice-aggregate-reads-4
+    reads-requires
+    counted-requires-3
+    sub-left-3
+    loop-less-3
+    loop-again-3
+    returns-2)

@@ -1,4 +1,4 @@
-//! Prints the fixed sample. tools/sample puts it where the program `replay` reads it.
+//! Prints the fixed sample. tools/sample puts it where the programs `replay` and `reread` read it.
 
 use oracle_answers::{integer, sample};
 use std::io::{self, Write};

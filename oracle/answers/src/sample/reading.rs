@@ -1,5 +1,5 @@
-//! Reading in the sample. Put lines write a tree into the tables of 1,024 that builds use, and the lines after them lend the first
-//! places, as many as each says:
+//! Reading in the sample. Put lines write a tree into three tables of 1,024, which begin with zeros, and the lines after them lend
+//! the first places, as many as each says:
 //!
 //! | OP | A | B | C | X | Y | Z |
 //! |---|---|---|---|---|---|---|

@@ -1,0 +1,247 @@
+// Replays the sample's lines that read a tree, and counts the lines that agree. The sample is the oracle's answers, written by
+// tools/sample. `put` lines write a tree into the tables, and the lines after them lend the first places, as many as A says.
+use dual::SlabAnswer;
+use dual::Tried;
+use libc::STDIN_FILENO;
+use libc::STDOUT_FILENO;
+use sample::END;
+use sample::Line;
+use sample::Tally;
+use tree::Lookup;
+use vertices::ListAnswer;
+
+const PUT: usize = 16;
+
+const LIST: usize = 19;
+
+// Where the input has ended, the text is no line.
+fn read_line() -> Line {
+    let mut text = [0u8; 108];
+    io::read_full(STDIN_FILENO, &mut text);
+    sample::parse(text)
+}
+
+// Writes one place of a tree's tables, if all have it.
+fn put(l: Line, keys: &mut [u64], distances: &mut [f32], leaves: &mut [u64]) -> bool {
+    let at = l.a as usize % 0x1_0000_0000;
+    if at >= keys.len() {
+        return false;
+    }
+    if at >= distances.len() {
+        return false;
+    }
+    if at >= leaves.len() {
+        return false;
+    }
+    keys[at] = l.b;
+    distances[at] = sample::float(l.a >> 32);
+    leaves[at] = l.c;
+    true
+}
+
+fn same_number(n: u64, l: Line) -> bool {
+    if l.status != 0 {
+        return false;
+    }
+    n == l.x
+}
+
+fn same_found(key: u64, distance: f32, tried: u32, l: Line) -> bool {
+    if tried as u64 != l.z {
+        return false;
+    }
+    if !sample::is_float(distance, l.y) {
+        return false;
+    }
+    same_number(key, l)
+}
+
+// Nothing has key and distance 0.
+fn same_lookup(answer: Lookup, l: Line) -> bool {
+    match answer {
+        Lookup::Found {
+            key,
+            distance,
+            tried,
+        } => same_found(key, distance, tried, l),
+        Lookup::Nothing { tried } => same_found(0, 0.0, tried, l),
+        Lookup::Refused(number) => number == l.status,
+    }
+}
+
+fn same_count(answer: ListAnswer, l: Line) -> bool {
+    match answer {
+        ListAnswer::Count(n) => same_number(n as u64, l),
+        ListAnswer::Refused(number) => number == l.status,
+    }
+}
+
+fn same_slab(answer: SlabAnswer, l: Line) -> bool {
+    match answer {
+        SlabAnswer::Is(n) => same_number(n as u64, l),
+        SlabAnswer::Refused(number) => number == l.status,
+    }
+}
+
+// A list into tables that are all 0, as long as C says.
+fn list(
+    l: Line,
+    keys: &[u64],
+    distances: &[f32],
+    leaves: &[u64],
+    vertices: &mut [u64],
+    levels: &mut [u8],
+) -> bool {
+    let a = sample::length_at(l.a, 0, keys.len());
+    let b = sample::length_at(l.a, 1, distances.len());
+    let c = sample::length_at(l.a, 2, leaves.len());
+    let d = sample::length_at(l.c, 0, vertices.len());
+    let e = sample::length_at(l.c, 1, levels.len());
+    let answer = vertices::list(
+        &keys[..a],
+        &distances[..b],
+        &leaves[..c],
+        l.b as usize,
+        &mut vertices[..d],
+        &mut levels[..e],
+    );
+    same_count(answer, l)
+}
+
+// One corner of a dual cell, which A says above the lengths.
+fn dual_cell(l: Line, keys: &[u64], distances: &[f32], leaves: &[u64]) -> bool {
+    let cell = dual::dual_cell(keys, distances, leaves, l.b, l.low_c);
+    let nodes = cell.keys;
+    let theirs = cell.distances;
+    let corner = sample::length_at(l.a, 3, 7);
+    let answer = cell.tried;
+    match answer {
+        Tried::Keys(n) => same_found(nodes[corner], theirs[corner], n, l),
+        Tried::Refused(number) => number == l.status,
+    }
+}
+
+fn is_sound(l: Line, keys: &[u64], distances: &[f32], leaves: &[u64]) -> bool {
+    if tree::sound(keys, distances, leaves) {
+        return l.x == 1;
+    }
+    l.x == 0
+}
+
+// A line that reads what is lent and changes no table.
+fn read_lent(l: Line, keys: &[u64], distances: &[f32], leaves: &[u64]) -> bool {
+    let op = l.op;
+    match op {
+        17 => is_sound(l, keys, distances, leaves),
+        18 => same_lookup(tree::look_up(keys, distances, leaves, l.b), l),
+        21 => dual_cell(l, keys, distances, leaves),
+        _ => false,
+    }
+}
+
+fn lend(l: Line, keys: &[u64], distances: &[f32], leaves: &[u64]) -> bool {
+    let a = sample::length_at(l.a, 0, keys.len());
+    let b = sample::length_at(l.a, 1, distances.len());
+    let c = sample::length_at(l.a, 2, leaves.len());
+    read_lent(l, &keys[..a], &distances[..b], &leaves[..c])
+}
+
+fn same_level(level: u8, y: u64) -> bool {
+    level as u64 == y
+}
+
+fn same_listed(l: Line, vertices: &[u64], levels: &[u8]) -> bool {
+    let at = l.a as usize;
+    if at >= vertices.len() {
+        return false;
+    }
+    if at >= levels.len() {
+        return false;
+    }
+    if vertices[at] != l.x {
+        return false;
+    }
+    same_level(levels[at], l.y)
+}
+
+// A line that changes no table.
+fn reads(
+    l: Line,
+    keys: &[u64],
+    distances: &[f32],
+    leaves: &[u64],
+    vertices: &[u64],
+    levels: &[u8],
+) -> bool {
+    let op = l.op;
+    match op {
+        20 => same_listed(l, vertices, levels),
+        22 => same_slab(dual::slab(l.a, l.low_b, l.low_c), l),
+        _ => lend(l, keys, distances, leaves),
+    }
+}
+
+fn replay() -> Tally {
+    let mut keys = [0u64; 1024];
+    let mut distances = [0.0f32; 1024];
+    let mut leaves = [0u64; 1024];
+    let mut vertices = [0u64; 1024];
+    let mut levels = [0u8; 1024];
+    let agree = [0u64; 23];
+    let mut tally = Tally { agree, differ: 0 };
+    let mut left: u32 = 100_000;
+    while 0 < left {
+        let l = read_line();
+        if l.op == END {
+            return tally;
+        }
+        if l.op == PUT {
+            let same = put(l, &mut keys, &mut distances, &mut leaves);
+            let more = sample::counted(tally, l.op, same);
+            tally = more;
+            left -= 1;
+        } else {
+            if l.op == LIST {
+                vertices = [0u64; 1024];
+                levels = [0u8; 1024];
+                let same = list(l, &keys, &distances, &leaves, &mut vertices, &mut levels);
+                let more = sample::counted(tally, l.op, same);
+                tally = more;
+                left -= 1;
+            } else {
+                let same = reads(l, &keys, &distances, &leaves, &vertices, &levels);
+                let more = sample::counted(tally, l.op, same);
+                tally = more;
+                left -= 1;
+            }
+        }
+    }
+    tally
+}
+
+fn print_count(n: u64) {
+    io::print_decimal(STDOUT_FILENO, n);
+    io::write_all(STDOUT_FILENO, b"\n");
+}
+
+// A call's name and how many of its lines agreed.
+fn print(name: &[u8], agree: [u64; 23], op: usize) {
+    io::write_all(STDOUT_FILENO, name);
+    if op < 23 {
+        print_count(agree[op]);
+    }
+}
+
+fn main() {
+    let t = replay();
+    let agree = t.agree;
+    print(b"put ", agree, 16);
+    print(b"sound ", agree, 17);
+    print(b"look_up ", agree, 18);
+    print(b"list ", agree, 19);
+    print(b"vertex at a place ", agree, 20);
+    print(b"dual_cell ", agree, 21);
+    print(b"slab ", agree, 22);
+    io::write_all(STDOUT_FILENO, b"differ ");
+    print_count(t.differ);
+}

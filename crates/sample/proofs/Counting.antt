@@ -1,0 +1,23 @@
+-- How lines are counted, by the tests that lead there. Assumes nothing.
+use Prim.Native.Nat.{ℕ, _+_, _%_, _^_, _≤_, _<_}
+use mathlib.Core.Path.{_≡_, refl}
+use mathlib.Core.Bool.{Bool, true, false, not}
+use borrow.Author.Tests.{lt-ltb, le-ltb, not-true, not-false}
+use lib.ListN.{getD, set}
+use Rattle.sample.specs.declared.Tally.{Tally}
+use Rattle.sample.specs.Count.{differingOf, countedOf}
+
+pub one-more : (t : Tally) (n : ℕ) → n ≡ (t .differ + 1) % 2 ^ 64 → _≡_ {A = Tally} (record { agree = t .agree; differ = n }) (differingOf t)
+one-more t n e = rw e refl
+
+pub not-same : (t r : Tally) (op : ℕ) (same : Bool) → r ≡ differingOf t → not same ≡ true → r ≡ countedOf t op same
+not-same t r op same e h = rw (not-true same h) e
+
+pub no-call : (t r : Tally) (op : ℕ) (same : Bool) → r ≡ differingOf t → not same ≡ false → 23 ≤ op → r ≡ countedOf t op same
+no-call t r op same e h l = rw (not-false same h, le-ltb op 23 l) e
+
+pub agreed : (t : Tally) (op n : ℕ) (same : Bool)
+    → n ≡ (getD (t .agree) op 0 + 1) % 2 ^ 64
+    → not same ≡ false → op < 23
+    → _≡_ {A = Tally} (record { agree = set (t .agree) op n; differ = t .differ }) (countedOf t op same)
+agreed t op n same e h l = rw (not-false same h, lt-ltb op 23 l, e) refl

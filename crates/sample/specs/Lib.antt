@@ -1,0 +1,4 @@
+-- What the contracts of `sample` cite.
+pub mod Text
+pub mod Word
+pub mod Count
