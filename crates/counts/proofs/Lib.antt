@@ -1,4 +1,3 @@
--- Laws of the program: of bit patterns, of how its build goes on and ends, of the list of its tree.
-pub mod Patterns
+-- Laws of the program: of how its build goes on and ends, and of the list of its tree.
 pub mod Going
 pub mod Trees

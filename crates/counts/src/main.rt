@@ -9,7 +9,6 @@ use vertices::ListAnswer;
 ghost use mathlib.Core.Path.{_≡_};
 ghost use Prim.Native.Nat.{_<_};
 ghost use lib.ListN.{take};
-ghost use lib.Ieee.{binary32, ofBits};
 ghost use Rattle.build.specs.Build.{tablesOf};
 ghost use Rattle.counts.specs.Ending.{littleEndian, stepOf, StepSays, DriveSays, Driven, Built, VerticesSay};
 
@@ -47,23 +46,13 @@ fn little_endian(bytes: [u8; 4]) -> u32
     low + 0x1_0000 * high
 }
 
-// The float of a bit pattern; of every NaN's pattern, the NaN.
-fn float(bits: u32) -> f32
-    ensures { λ r. ⌜ r ≡ ofBits binary32 bits ⌝ }
-{
-    if 0x7f80_0000 < bits % 0x8000_0000 {
-        return 0.0 / 0.0;
-    }
-    f32::from_bits(bits)
-}
-
 fn read_distance() -> Given {
     let mut bytes = [0u8; 4];
     let got = io::read_full(STDIN_FILENO, &mut bytes);
     if got < 4 {
         return Given::Nothing;
     }
-    Given::Distance(float(little_endian(bytes)))
+    Given::Distance(floats::from_bits(little_endian(bytes)))
 }
 
 // What a build's answer leads to.

@@ -2,7 +2,6 @@
 // and 16 digits, with a space after each and a newline after the last.
 ghost use mathlib.Core.Path.{_≡_};
 ghost use Prim.Native.Nat.{_+_, _%_, _^_, _≤_, _<_};
-ghost use lib.Ieee.{binary32, ofBits, toBits};
 ghost use Rattle.sample.specs.Text.{digitOf, number, opOf, lineOf};
 ghost use Rattle.sample.specs.Word.{floatOf, Decides, lengthOf};
 ghost use Rattle.sample.specs.Count.{differingOf, countedOf};
@@ -100,28 +99,14 @@ pub fn parse(text: [u8; 108]) -> Line
 pub fn float(bits: u64) -> f32
     ensures { λ r. ⌜ r ≡ floatOf bits ⌝ }
 {
-    let n = low(bits);
-    if 0x7f80_0000 < n % 0x8000_0000 {
-        return 0.0 / 0.0;
-    }
-    f32::from_bits(n)
-}
-
-// The bit pattern of a float, one for all NaNs.
-fn pattern(d: f32) -> u32
-    ensures { λ r. ⌜ (r ≡ toBits binary32 d) × (ofBits binary32 r ≡ d) ⌝ }
-{
-    if d != d {
-        return 0x7fc0_0000;
-    }
-    f32::to_bits(d)
+    floats::from_bits(low(bits))
 }
 
 // Whether d is the float of a word's low half. The sign of a zero counts, the bits of a NaN don't.
 pub fn is_float(d: f32, bits: u64) -> bool
     ensures { λ r. ⌜ Decides r (d ≡ floatOf bits) ⌝ }
 {
-    if pattern(d) != pattern(float(bits)) {
+    if floats::to_bits(d) != floats::to_bits(float(bits)) {
         return false;
     }
     true

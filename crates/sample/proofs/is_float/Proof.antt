@@ -5,14 +5,14 @@ use Rattle.sample.proofs.Patterns.{same-pattern, other-pattern}
 use Rattle.sample.proofs.is_float.Statement.{statement}
 use Rattle.sample.proofs.is_float.Tie as tie
 
-pattern-requires : tie.Need-pattern-requires
-pattern-requires c κs = search needs
+to-bits-requires : tie.Need-to-bits-requires
+to-bits-requires c κs = search needs
 
 float-requires : tie.Need-float-requires
 float-requires c κs = search needs
 
-pattern-requires-2 : tie.Need-pattern-requires-2
-pattern-requires-2 c κs = search needs
+to-bits-requires-2 : tie.Need-to-bits-requires-2
+to-bits-requires-2 c κs = search needs
 
 returns : tie.Need-returns
 returns c =
@@ -22,8 +22,8 @@ returns c =
     (floatOf (c .before .before .before .before .args .bits))
     _
     _
-    (c .before .before .before .pattern .ensures)
-    (c .before .pattern2 .ensures)
+    (c .before .before .before .to-bits .ensures)
+    (c .before .to-bits2 .ensures)
     (c .before .before .float .ensures)
     (c .if1 .taken)
 
@@ -35,11 +35,11 @@ returns-2 c =
     (floatOf (c .before .before .before .before .args .bits))
     _
     _
-    (c .before .before .before .pattern .ensures)
-    (c .before .pattern2 .ensures)
+    (c .before .before .before .to-bits .ensures)
+    (c .before .to-bits2 .ensures)
     (c .before .before .float .ensures)
     (c .if1 .left)
 
 pub is-float-spec : {M : Type 1} → statement M
 is-float-spec =
-    tie.close (tie.spec pattern-requires float-requires pattern-requires-2 returns returns-2)
+    tie.close (tie.spec to-bits-requires float-requires to-bits-requires-2 returns returns-2)

@@ -1,10 +1,11 @@
 -- Which float a bit pattern is. Assumes nothing.
 use Prim.Native.Nat.{ℕ, _%_, _^_, _≤_, _<_}
 use mathlib.Core.Path.{_≡_, refl, sym, _∙_, subst}
-use mathlib.Core.Bool.{Bool, true, not, false≢true}
+use mathlib.Core.Bool.{Bool, true, false, not, true≢false, false≢true}
 use lib.Dec.{T}
-use lib.Ieee.{Float, nan, inf, fin, binary32, div, ofBits, isNan, nanBits}
+use lib.Ieee.{Float, nan, inf, fin, binary32, div, ne, ofBits, toBits, isNan, nanBits}
 use lib.Ieee.Bits.{nanBits-is, nanBits-above}
+use lib.Ieee.Compare.{differs-from-itself}
 use borrow.Author.Tests.{lt-ltb, le-ltb}
 
 pub zero-over-zero : div binary32 (ofBits binary32 0) (ofBits binary32 0) ≡ nan
@@ -22,3 +23,20 @@ above-is-nan n h = is-nan (ofBits binary32 n) (sym (nanBits-is binary32 n) ∙ n
 
 pub below-no-nan : (n : ℕ) → n % 2 ^ 31 ≤ 0x7f80_0000 → T (not (nanBits binary32 n))
 below-no-nan n h = subst (λ (b : Bool). T (not b)) (sym (nanBits-above binary32 n ∙ le-ltb 0x7f80_0000 (n % 2 ^ 31) h)) tt
+
+-- the pattern of a float, from which it comes back
+abbrev pub PatternOf : Float → ℕ → Type 0
+PatternOf d r = (r ≡ toBits binary32 d) × (ofBits binary32 r ≡ d)
+
+pub equal-no-nan : (x : Float) → ne x x ≡ false → T (not (isNan x))
+unfolding isNan ne
+equal-no-nan nan t = absurd (true≢false t)
+equal-no-nan (inf s) t = tt
+equal-no-nan (fin s m e) t = tt
+
+nan-bits : PatternOf nan 0x7fc0_0000
+unfolding toBits ofBits
+nan-bits = (refl, refl)
+
+pub unequal-nan : (x : Float) → ne x x ≡ true → PatternOf x 0x7fc0_0000
+unequal-nan x e = subst (λ (d : Float). PatternOf d 0x7fc0_0000) (sym (differs-from-itself x (subst T (sym e) tt))) nan-bits
