@@ -21,13 +21,6 @@ fn same_bool(answer: bool, x: u64) -> bool {
     if answer { x == 1 } else { x == 0 }
 }
 
-fn same_number(n: u64, l: Line) -> bool {
-    if l.status != 0 {
-        return false;
-    }
-    n == l.x
-}
-
 fn same_float(d: f32, l: Line) -> bool {
     if l.status != 0 {
         return false;
@@ -47,7 +40,7 @@ fn same_point(p: Vec3, l: Line) -> bool {
 
 fn same_key(answer: KeyAnswer, l: Line) -> bool {
     match answer {
-        KeyAnswer::Is(k) => same_number(k.code, l),
+        KeyAnswer::Is(k) => sample::first_is(l, k.code),
         KeyAnswer::Refused(number) => number == l.status,
     }
 }
@@ -119,7 +112,7 @@ fn same_request(r: Request, l: Line) -> bool {
     if !sample::is_float(r.half, l.z >> 32) {
         return false;
     }
-    same_number(r.key, l)
+    sample::first_is(l, r.key)
 }
 
 // A build that is finished asks for the key 0.
@@ -131,7 +124,7 @@ fn same_answer(answer: Answer, was: State, l: Line) -> Step {
         },
         Answer::Finished(s) => Step {
             state: s,
-            same: same_number(0, l),
+            same: sample::first_is(l, 0),
         },
         Answer::Refused(number) => Step {
             state: was,

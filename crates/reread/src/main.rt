@@ -39,13 +39,6 @@ fn put(l: Line, keys: &mut [u64], distances: &mut [f32], leaves: &mut [u64]) -> 
     true
 }
 
-fn same_number(n: u64, l: Line) -> bool {
-    if l.status != 0 {
-        return false;
-    }
-    n == l.x
-}
-
 fn same_found(key: u64, distance: f32, tried: u32, l: Line) -> bool {
     if tried as u64 != l.z {
         return false;
@@ -53,7 +46,7 @@ fn same_found(key: u64, distance: f32, tried: u32, l: Line) -> bool {
     if !sample::is_float(distance, l.y) {
         return false;
     }
-    same_number(key, l)
+    sample::first_is(l, key)
 }
 
 // Nothing has key and distance 0.
@@ -71,14 +64,14 @@ fn same_lookup(answer: Lookup, l: Line) -> bool {
 
 fn same_count(answer: ListAnswer, l: Line) -> bool {
     match answer {
-        ListAnswer::Count(n) => same_number(n as u64, l),
+        ListAnswer::Count(n) => sample::first_is(l, n as u64),
         ListAnswer::Refused(number) => number == l.status,
     }
 }
 
 fn same_slab(answer: SlabAnswer, l: Line) -> bool {
     match answer {
-        SlabAnswer::Is(n) => same_number(n as u64, l),
+        SlabAnswer::Is(n) => sample::first_is(l, n as u64),
         SlabAnswer::Refused(number) => number == l.status,
     }
 }

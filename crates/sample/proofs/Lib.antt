@@ -1,6 +1,4 @@
--- The laws of `sample`. Lending is what the programs cite; One is read for itself.
+-- The laws of `sample`. Lending is what the programs cite.
 pub mod Digits
-pub mod Patterns
 pub mod Counting
 pub mod Lending
-pub mod One

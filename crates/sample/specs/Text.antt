@@ -1,6 +1,6 @@
 -- What a line of text says. Assumes nothing.
 use Prim.Native.Nat.{ℕ, zero, suc, _+_, _-_, _*_, _%_, _^_}
-use mathlib.Core.Bool.{_&&_, cond}
+use mathlib.Core.Bool.{Bool, _&&_, cond}
 use mathlib.Core.List.{List}
 use lib.Dec.{leb, ltb, eqb}
 use lib.ListN.{getD}
@@ -33,3 +33,7 @@ lineOf text =
       y = number text 74 16;
       z = number text 91 16;
     }
+
+-- The line is no refusal, and its first result is n.
+abbrev pub firstIs : Line → ℕ → Bool
+firstIs l n = eqb (l .status) 0 && eqb n (l .x)

@@ -2,8 +2,8 @@
 // and 16 digits, with a space after each and a newline after the last.
 ghost use mathlib.Core.Path.{_≡_};
 ghost use Prim.Native.Nat.{_+_, _%_, _^_, _≤_, _<_};
-ghost use Rattle.sample.specs.Text.{digitOf, number, opOf, lineOf};
-ghost use Rattle.sample.specs.Word.{floatOf, Decides, lengthOf};
+ghost use Rattle.sample.specs.Text.{digitOf, number, opOf, lineOf, firstIs};
+ghost use Rattle.sample.specs.Word.{floatOf, isFloat, lengthOf};
 ghost use Rattle.sample.specs.Count.{differingOf, countedOf};
 
 // The call of a text that is no line, as where the sample has ended; a line has two digits for its own.
@@ -102,14 +102,21 @@ pub fn float(bits: u64) -> f32
     floats::from_bits(low(bits))
 }
 
-// Whether d is the float of a word's low half. The sign of a zero counts, the bits of a NaN don't.
+// Whether a word's low half is the pattern of d. The sign of a zero counts; every NaN has the one pattern.
 pub fn is_float(d: f32, bits: u64) -> bool
-    ensures { λ r. ⌜ Decides r (d ≡ floatOf bits) ⌝ }
+    ensures { λ r. ⌜ r ≡ isFloat d bits ⌝ }
 {
-    if floats::to_bits(d) != floats::to_bits(float(bits)) {
+    floats::to_bits(d) == low(bits)
+}
+
+// Whether a line is no refusal and its first result is n.
+pub fn first_is(l: Line, n: u64) -> bool
+    ensures { λ r. ⌜ r ≡ firstIs l n ⌝ }
+{
+    if l.status != 0 {
         return false;
     }
-    true
+    n == l.x
 }
 
 // One of the four lengths that are packed in a word, the lowest being number 0, and at most so many.

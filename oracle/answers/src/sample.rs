@@ -3,7 +3,8 @@
 //! has no answer, the model has it; where both have one, they must agree.
 //!
 //! A line is `OP A B C ST X Y Z`: call, three parameters, refusal (00: accepted) and three results, in hexadecimal. What a call
-//! doesn't use is 0, and so are the results of a refusal.
+//! doesn't use is 0, and so are the results of a refusal. Floats are bit patterns, a NaN being 7fc00000: no other pattern of one
+//! compares equal.
 
 use crate::inputs::{around_split_edge, distances, first_cell, last_cell, powers, Random};
 use crate::{integer, model, splits_in_f32};
