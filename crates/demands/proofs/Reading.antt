@@ -27,11 +27,11 @@ use Rattle.geometry.proofs.Cover.{shape-covers}
 use Rattle.geometry.proofs.Around.{Entry, entry}
 use Rattle.geometry.proofs.Listing.{giver, listed-strict, listed-corner, listed-deepest}
 use Rattle.build.specs.Build.{finest}
+use Rattle.vertices.specs.Listing.{Lists, written, Wrote}
 use Rattle.dual.specs.declared.Dual.{Dual}
 use Rattle.dual.specs.declared.Tried.{Tried}
 use Rattle.dual.specs.declared.Tried.the-variants as tried
 use Rattle.dual.specs.declared.Tried.the-variants.{Keys}
-use Rattle.vertices.specs.Listing.{Lists, written, Wrote}
 use Rattle.dual.specs.Dual.{DualSays, sum, DualCell, keyIn, distanceIn, climbAt, Around}
 use Rattle.dual.proofs.Filling.{around-dual}
 use Rattle.demands.specs.Reading.{Once, LeafCorner, ListsCorners, HoldsAlone, LeafCell, part, Reading, OfSoundTrees, treeAfter, OfFinishedBuilds}

@@ -13,11 +13,11 @@ use Rattle.build.specs.Build.{Tables, finest}
 use Rattle.tree.specs.Tree.{Tree, StandsAt, In, Ascending, Sound}
 use Rattle.geometry.specs.Grid.{liesIn, Covers}
 use Rattle.geometry.specs.Corner.{Corner, StrictlyInside}
-use Rattle.dual.specs.declared.Dual.{Dual}
 use Rattle.vertices.specs.declared.ListAnswer.the-variants.{Count, Refused}
+use Rattle.vertices.specs.Listing.{Lists, ListSays}
+use Rattle.dual.specs.declared.Dual.{Dual}
 use Rattle.dual.specs.declared.Tried.the-variants as tried
 use Rattle.dual.specs.Dual.{DualCell, DualSays}
-use Rattle.vertices.specs.Listing.{Lists, ListSays}
 use Rattle.demands.specs.Run.{Run, nodeKeys, leafKeys}
 
 -- v stands in the list at one place.

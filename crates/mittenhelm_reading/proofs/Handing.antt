@@ -5,10 +5,10 @@ use mathlib.Core.List.{List}
 use lib.Ieee.{Float}
 use Rattle.tree.specs.declared.Lookup.{Lookup}
 use Rattle.tree.specs.declared.Lookup.the-variants as lookup
-use Rattle.dual.specs.declared.Tried.{Tried}
-use Rattle.dual.specs.declared.Tried.the-variants as tried
 use Rattle.vertices.specs.declared.ListAnswer.{ListAnswer}
 use Rattle.vertices.specs.declared.ListAnswer.the-variants as list
+use Rattle.dual.specs.declared.Tried.{Tried}
+use Rattle.dual.specs.declared.Tried.the-variants as tried
 use Rattle.dual.specs.declared.SlabAnswer.{SlabAnswer}
 use Rattle.dual.specs.declared.SlabAnswer.the-variants as slab
 use Rattle.mittenhelm_reading.specs.Reading.{Found, foundAt, HandsFound, Eight, eightAt, HandsEight, HandsCount, HandsSlab}

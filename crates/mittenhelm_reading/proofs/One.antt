@@ -8,18 +8,18 @@ use Rattle.tree.specs.declared.Lookup.the-variants as lookup
 use Rattle.tree.specs.Tree.{Tree, Sound, Decides}
 use Rattle.tree.specs.Climb.{LookupSays}
 use Rattle.tree.proofs.One.{sound-one as sound-answer-one, look-up-one as lookup-answer-one}
+use Rattle.vertices.specs.declared.ListAnswer.{ListAnswer}
+use Rattle.vertices.specs.declared.ListAnswer.the-variants as list
+use Rattle.vertices.specs.Listing.{Lists}
+use Rattle.vertices.proofs.One.{list-one as list-answer-one}
 use Rattle.dual.specs.declared.Dual.{Dual}
 use Rattle.dual.specs.declared.Tried.{Tried}
 use Rattle.dual.specs.declared.Tried.the-variants as tried
-use Rattle.vertices.specs.declared.ListAnswer.{ListAnswer}
-use Rattle.vertices.specs.declared.ListAnswer.the-variants as list
 use Rattle.dual.specs.declared.SlabAnswer.{SlabAnswer}
 use Rattle.dual.specs.declared.SlabAnswer.the-variants as slab
 use Rattle.dual.specs.Dual.{DualSays}
-use Rattle.vertices.specs.Listing.{Lists}
 use Rattle.dual.specs.Slab.{slabAnswer}
 use Rattle.dual.proofs.One.{dual-cell-one as dual-answer-one}
-use Rattle.vertices.proofs.One.{list-one as list-answer-one}
 use Rattle.mittenhelm_reading.specs.Reading.{Found, foundAt, HandsFound, HandsLookup, Eight, eightAt, HandsEight, HandsDual, HandsCount, HandsList, HandsSlab}
 
 pub sound-one : (t : Tree) → OnlyOne (λ (r : Bool). Decides r (Sound t))

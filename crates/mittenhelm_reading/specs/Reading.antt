@@ -7,15 +7,15 @@ use Rattle.tree.specs.declared.Lookup.{Lookup}
 use Rattle.tree.specs.declared.Lookup.the-variants as lookup
 use Rattle.tree.specs.Tree.{Tree}
 use Rattle.tree.specs.Climb.{LookupSays}
+use Rattle.vertices.specs.declared.ListAnswer.{ListAnswer}
+use Rattle.vertices.specs.declared.ListAnswer.the-variants as list
+use Rattle.vertices.specs.Listing.{Lists, ListSays}
 use Rattle.dual.specs.declared.Dual.{Dual}
 use Rattle.dual.specs.declared.Tried.{Tried}
 use Rattle.dual.specs.declared.Tried.the-variants as tried
-use Rattle.vertices.specs.declared.ListAnswer.{ListAnswer}
-use Rattle.vertices.specs.declared.ListAnswer.the-variants as list
 use Rattle.dual.specs.declared.SlabAnswer.{SlabAnswer}
 use Rattle.dual.specs.declared.SlabAnswer.the-variants as slab
 use Rattle.dual.specs.Dual.{DualSays}
-use Rattle.vertices.specs.Listing.{Lists, ListSays}
 
 -- The three places of a lookup.
 pub record Found : Type 0 where
