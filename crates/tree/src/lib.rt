@@ -6,7 +6,7 @@ ghost use Prim.Native.Nat.{_+_, _^_, _<_, _≤_, min};
 ghost use lib.ListN.{length};
 ghost use Rattle.morton.specs.Level.{deepest, level};
 ghost use Rattle.tree.specs.Tree.{treeOf, StandsAt, Sound, Decides, EightAt};
-ghost use Rattle.tree.specs.Climb.{LookupSays, firstFrom, standsAt, climbFrom, climbOf};
+ghost use Rattle.tree.specs.Climb.{LookupSays, firstFrom, standsAt, climbFrom, climbOf, trustingOf};
 
 // The key that was found with its distance, or nothing, and how many keys were tried; or the number of the refusal.
 pub enum Lookup {
@@ -165,6 +165,17 @@ pub fn climb(keys: &[u64], distances: &[f32], key: u64) -> Lookup
     climb_from(keys, distances, n, cell.level(), key)
 }
 
+// The same, but that what is no cell key is refused. The tree is trusted to be sound: who reads much checks it once.
+pub fn look_up_trusting(keys: &[u64], distances: &[f32], key: u64) -> Lookup
+    ensures { λ r. ⌜ r ≡ trustingOf (now (keys .entry)) (now (distances .entry)) key ⌝ }
+{
+    let cell = Key { code: key };
+    if !cell.is_cell() {
+        return Lookup::Refused(1);
+    }
+    climb(keys, distances, key)
+}
+
 // The deepest ancestor of a cell key in a sound tree.
 pub fn look_up(keys: &[u64], distances: &[f32], leaves: &[u64], key: u64) -> Lookup
     ensures { λ r. ⌜ LookupSays (treeOf (now (keys .entry)) (now (distances .entry)) (now (leaves .entry))) key r ⌝ }
@@ -172,9 +183,5 @@ pub fn look_up(keys: &[u64], distances: &[f32], leaves: &[u64], key: u64) -> Loo
     if !sound(keys, distances, leaves) {
         return Lookup::Refused(11);
     }
-    let cell = Key { code: key };
-    if !cell.is_cell() {
-        return Lookup::Refused(1);
-    }
-    climb(keys, distances, key)
+    look_up_trusting(keys, distances, key)
 }
