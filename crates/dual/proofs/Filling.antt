@@ -2,7 +2,7 @@
 use Prim.Native.Nat.{ℕ, zero, suc, _+_, _-_, _*_, _/_, _^_, _≤_, _<_}
 use mathlib.Core.Path.{_≡_, refl, sym, _∙_, ap, subst}
 use mathlib.Core.Bool.{true, true≢false}
-use mathlib.Core.Logic.{_⊎_, ⊎-elim}
+use mathlib.Core.Logic.{inl, inr, ⊎-elim}
 use mathlib.Core.List.{List}
 use native.Mathlib.Omega.{arith}
 use native.Mathlib.Decide.{decLt}
@@ -25,7 +25,7 @@ use Rattle.geometry.proofs.Place.{side, side-cell, side-on-grid}
 use Rattle.geometry.proofs.Vertex.{inner-strict, inner-grid}
 use Rattle.dual.specs.declared.Tried.{Tried}
 use Rattle.dual.specs.declared.Tried.the-variants.{Keys, Refused}
-use Rattle.dual.specs.Dual.{triedTo, DualCell, DualSays, NoCell, AroundSays, RefusedSays, keyIn, distanceIn, climbAt, sum, Around, EntrySays}
+use Rattle.dual.specs.Dual.{triedTo, DualCell, DualSays, NoCell, AroundSays, RefusedSays, TrustingSays, keyIn, distanceIn, climbAt, sum, Around, EntrySays}
 
 -- ---- filling
 
@@ -135,17 +135,27 @@ module _ (t : Tree) (S : Sound t) (L v : ℕ) (word : v < 2 ^ 64) (inner : isInn
             (λ i h. found-at i h .tried-is ∙ ap (triedTo L) (sym (a .key i h)));
       }
 
--- ---- what the call answers
+-- ---- what the calls answer
 
-pub dual-refused : (t : Tree) (L v n : ℕ) (keys : List ℕ) (distances : List Float) (tried : Tried) → RefusedSays n keys distances tried
-    → ((Sound t → ⊥) × (n ≡ 11)) ⊎ (Sound t × NoCell t L v × (n ≡ 4)) → DualSays t L v keys distances tried
-dual-refused t L v n keys distances tried r why = rw (r .is) (r .no-keys, r .no-distances, why)
+pub dual-unsound : (t : Tree) (L v : ℕ) (keys : List ℕ) (distances : List Float) (tried : Tried) → RefusedSays 11 keys distances tried
+    → (Sound t → ⊥) → DualSays t L v keys distances tried
+dual-unsound t L v keys distances tried r not = rw (r .is) (r .no-keys, r .no-distances, inl (not, refl))
 
-pub dual-answers : (t : Tree) (L v q : ℕ) (keys : List ℕ) (distances : List Float) (tried : Tried)
-    → Sound t → v < 2 ^ 64 → isInner L v ≡ true → (length (t .keys) ≡ 1 → ⊥) → q ≡ v / 2 ^ (63 - L * 3)
-    → AroundSays (t .keys) (t .distances) q keys distances tried → DualSays t L v keys distances tried
-dual-answers t L v q keys distances (Keys n) S word inner alone e a =
-    let l = inner-level L v inner in
+module _ (ks : List ℕ) (ds : List Float) (L v : ℕ) (keys : List ℕ) (distances : List Float) where
+  pub trusting-refused : (tried : Tried) → RefusedSays 4 keys distances tried → NoCell ks L v → TrustingSays ks ds L v keys distances tried
+  trusting-refused tried r why = rw (r .is) (r .no-keys, r .no-distances, why, refl)
+
+  pub trusting-answers : (q : ℕ) (tried : Tried) → isInner L v ≡ true → (length ks ≡ 1 → ⊥) → q ≡ v / 2 ^ (63 - L * 3)
+      → AroundSays ks ds q keys distances tried → TrustingSays ks ds L v keys distances tried
+  trusting-answers q (Keys n) inner alone e a =
+      let l = inner-level L v inner in
+      (inner, alone, subst (λ (x : ℕ). Around ks ds x keys distances n) (e ∙ ap (λ (x : ℕ). v / x) (up-pow L (omega arith))) a)
+  trusting-answers q (Refused k) inner alone e a = absurd a
+
+-- of a sound tree that is its dual cell, refused or not; a vertex is a number of 64 bits
+pub trusting-dual : (t : Tree) → Sound t → (L v : ℕ) → v < 2 ^ 64 → (keys : List ℕ) (distances : List Float) (tried : Tried)
+    → TrustingSays (t .keys) (t .distances) L v keys distances tried → DualSays t L v keys distances tried
+trusting-dual t S L v word keys distances (Keys n) (inner, alone, a) =
     let more : 1 < length (t .keys) = omega (arith, S .first .inside, lt-of-le-ne (S .first .inside) (λ (z : 1 ≡ length (t .keys)). alone (sym z))) in
-    (S, inner, more, around-dual t S L v word inner more keys distances n (subst (λ (x : ℕ). Around (t .keys) (t .distances) x keys distances n) (e ∙ ap (λ (x : ℕ). v / x) (up-pow L (omega arith))) a))
-dual-answers t L v q keys distances (Refused k) S word inner alone e a = absurd a
+    (S, inner, more, around-dual t S L v word inner more keys distances n a)
+trusting-dual t S L v word keys distances (Refused k) (no-keys, no-distances, why, four) = (no-keys, no-distances, inr (S, why, four))

@@ -1,5 +1,5 @@
 -- One answer only: of each public call, two answers that meet its promise are the same. Assumes nothing.
-use Prim.Native.Nat.{ℕ, _<_}
+use Prim.Native.Nat.{ℕ, _^_, _<_}
 use mathlib.Core.Path.{_≡_, refl, sym, ap, _∙_}
 use mathlib.Core.Bool.{true, true≢false}
 use mathlib.Core.Logic.{_⊎_, inl, inr, ⊎-elim}
@@ -17,7 +17,8 @@ use Rattle.dual.specs.declared.SlabAnswer.{SlabAnswer}
 use Rattle.dual.specs.declared.Tried.{Tried}
 use Rattle.dual.specs.declared.Tried.the-variants.{Keys, Refused}
 use Rattle.dual.specs.Slab.{slabAnswer}
-use Rattle.dual.specs.Dual.{sum, triedTo, DualCell, NoCell, DualSays}
+use Rattle.dual.specs.Dual.{sum, triedTo, DualCell, NoCell, DualSays, Around, TrustingSays}
+use Rattle.dual.proofs.Filling.{trusting-dual}
 
 -- ---- dual cells
 
@@ -38,7 +39,7 @@ module _ (t : Tree) (S : Sound t) (L v : ℕ) {k₁ k₂ : List ℕ} {d₁ d₂ 
 
 -- why it is refused
 abbrev Why : Tree → ℕ → ℕ → ℕ → Type 0
-Why t L v k = ((Sound t → ⊥) × (k ≡ 11)) ⊎ (Sound t × NoCell t L v × (k ≡ 4))
+Why t L v k = ((Sound t → ⊥) × (k ≡ 11)) ⊎ (Sound t × NoCell (t .keys) L v × (k ≡ 4))
 
 why-one : (t : Tree) (L v j k : ℕ) → Why t L v j → Why t L v k → j ≡ k
 why-one t L v j k (inl x) (inl y) = x .1 ∙ sym (y .1)
@@ -59,6 +60,34 @@ dual-cell-one t L v r s p q = go (r .tried) (s .tried) refl refl p q
     go (Keys n) (Refused k) e f (S, i, more, _) (_, _, w) = absurd (not-why t L v k S i more w)
     go (Refused j) (Keys n) e f (_, _, w) (S, i, more, _) = absurd (not-why t L v j S i more w)
     go (Refused j) (Refused k) e f (ks, ds, w) (ks', ds', w') = same r s (e ∙ ap Refused (why-one t L v j k w w') ∙ sym f) (ks ∙ sym ks') (ds ∙ sym ds')
+
+-- ---- dual cells of a tree that is trusted
+
+module _ {ks : List ℕ} {ds : List Float} {q : ℕ} {k₁ k₂ : List ℕ} {d₁ d₂ : List Float} {n₁ n₂ : ℕ} (a : Around ks ds q k₁ d₁ n₁) (b : Around ks ds q k₂ d₂ n₂) where
+  around-keys : k₁ ≡ k₂
+  around-keys = ext-getD 0 k₁ k₂ (a .eight-keys ∙ sym (b .eight-keys))
+      (λ i h. let l : i < 8 = omega (arith, a .eight-keys) in a .key i l ∙ sym (b .key i l))
+
+  around-distances : d₁ ≡ d₂
+  around-distances = ext-getD nan d₁ d₂ (a .eight-distances ∙ sym (b .eight-distances))
+      (λ i h. let l : i < 8 = omega (arith, a .eight-distances) in a .distance i l ∙ sym (b .distance i l))
+
+not-none : (ks : List ℕ) (L v : ℕ) → isInner L v ≡ true → (length ks ≡ 1 → ⊥) → NoCell ks L v → ⊥
+not-none ks L v e alone w = ⊎-elim (λ f. true≢false (sym e ∙ f)) alone w
+
+pub dual-cell-trusting-one : (ks : List ℕ) (ds : List Float) (L v : ℕ) → OnlyOne (λ (r : Dual). TrustingSays ks ds L v (r .keys) (r .distances) (r .tried))
+dual-cell-trusting-one ks ds L v r s p q = go (r .tried) (s .tried) refl refl p q
+  where
+    go : (a b : Tried) → r .tried ≡ a → s .tried ≡ b → TrustingSays ks ds L v (r .keys) (r .distances) a → TrustingSays ks ds L v (s .keys) (s .distances) b → r ≡ s
+    go (Keys n) (Keys m) e f (_, _, c) (_, _, d) = same r s (e ∙ ap Keys (c .count ∙ sym (d .count)) ∙ sym f) (around-keys c d) (around-distances c d)
+    go (Keys n) (Refused k) e f (i, alone, _) (_, _, w, _) = absurd (not-none ks L v i alone w)
+    go (Refused j) (Keys n) e f (_, _, w, _) (i, alone, _) = absurd (not-none ks L v i alone w)
+    go (Refused j) (Refused k) e f (xs, ds, _, four) (xs', ds', _, four') = same r s (e ∙ ap Refused (four ∙ sym four') ∙ sym f) (xs ∙ sym xs') (ds ∙ sym ds')
+
+-- of a sound tree, what a dual cell's call may answer is what the trusting one answers
+pub trusting-is-dual-cell : (t : Tree) → Sound t → (L v : ℕ) → v < 2 ^ 64 → (r s : Dual)
+    → DualSays t L v (r .keys) (r .distances) (r .tried) → TrustingSays (t .keys) (t .distances) L v (s .keys) (s .distances) (s .tried) → r ≡ s
+trusting-is-dual-cell t S L v word r s p q = dual-cell-one t L v r s p (trusting-dual t S L v word (s .keys) (s .distances) (s .tried) q)
 
 -- ---- slabs
 

@@ -1,5 +1,5 @@
 -- What a dual cell is, and what the call answers. Assumes nothing.
-use Prim.Native.Nat.{ℕ, zero, suc, _+_, _-_, _<_}
+use Prim.Native.Nat.{ℕ, zero, suc, _+_, _-_, _/_, _^_, _<_}
 use mathlib.Core.Path.{_≡_}
 use mathlib.Core.Bool.{true, false}
 use mathlib.Core.Logic.{_⊎_}
@@ -7,7 +7,7 @@ use mathlib.Core.List.{List}
 use lib.Ieee.{Float, nan, ofBits, binary32}
 use lib.ListN.{length, getD, replicate}
 use Rattle.morton.specs.Field.{sub}
-use Rattle.morton.specs.Level.{level}
+use Rattle.morton.specs.Level.{deepest, level}
 use Rattle.morton.specs.Vertex.{isInner, sideOf}
 use Rattle.tree.specs.Tree.{Tree, Sound}
 use Rattle.tree.specs.declared.Lookup.{Lookup}
@@ -42,14 +42,14 @@ abbrev pub noDistances : List Float
 noDistances = replicate 8 (ofBits binary32 0)
 
 -- It isn't an inner vertex at that level, or the tree is the root alone.
-abbrev pub NoCell : Tree → ℕ → ℕ → Type 0
-NoCell t L v = (isInner L v ≡ false) ⊎ (length (t .keys) ≡ 1)
+abbrev pub NoCell : List ℕ → ℕ → ℕ → Type 0
+NoCell ks L v = (isInner L v ≡ false) ⊎ (length ks ≡ 1)
 
 -- Refusals 11, 4.
 abbrev pub DualSays : Tree → ℕ → ℕ → List ℕ → List Float → Tried → Type 0
 DualSays t L v keys distances (Keys n) = Sound t × (isInner L v ≡ true) × (1 < length (t .keys)) × DualCell t L v keys distances n
 DualSays t L v keys distances (Refused k) =
-    (keys ≡ noKeys) × (distances ≡ noDistances) × (((Sound t → ⊥) × (k ≡ 11)) ⊎ (Sound t × NoCell t L v × (k ≡ 4)))
+    (keys ≡ noKeys) × (distances ≡ noDistances) × (((Sound t → ⊥) × (k ≡ 11)) ⊎ (Sound t × NoCell (t .keys) L v × (k ≡ 4)))
 
 -- ---- the same on any tables at all, where no tree need be sound
 
@@ -68,6 +68,7 @@ distanceIn (lookup.Refused n) = ofBits binary32 0
 abbrev pub climbAt : List ℕ → List Float → ℕ → ℕ → Lookup
 climbAt ks ds q i = climbOf ks ds (sub q i)
 
+-- All eight, and the sum of keys tried.
 pub record Around (ks : List ℕ) (ds : List Float) (q : ℕ) (keys : List ℕ) (distances : List Float) (tried : ℕ) : Type 0 where
   pub eight-keys : length keys ≡ 8
   pub eight-distances : length distances ≡ 8
@@ -78,6 +79,11 @@ pub record Around (ks : List ℕ) (ds : List Float) (q : ℕ) (keys : List ℕ) 
 abbrev pub AroundSays : List ℕ → List Float → ℕ → List ℕ → List Float → Tried → Type 0
 AroundSays ks ds q keys distances (Keys n) = Around ks ds q keys distances n
 AroundSays ks ds q keys distances (Refused k) = ⊥
+
+-- Of a tree that is trusted to be sound: refusal 4 where there is no cell, else what the climbs from the eight sides come to.
+abbrev pub TrustingSays : List ℕ → List Float → ℕ → ℕ → List ℕ → List Float → Tried → Type 0
+TrustingSays ks ds L v keys distances (Keys n) = (isInner L v ≡ true) × (length ks ≡ 1 → ⊥) × Around ks ds (v / 8 ^ (deepest - L)) keys distances n
+TrustingSays ks ds L v keys distances (Refused k) = (keys ≡ noKeys) × (distances ≡ noDistances) × NoCell ks L v × (k ≡ 4)
 
 -- One entry.
 pub record EntrySays (answer : Lookup) (key : ℕ) (distance : Float) (tried : ℕ) : Type 0 where

@@ -5,7 +5,7 @@ use tree::Lookup;
 ghost use mathlib.Core.Path.{_≡_};
 ghost use Rattle.tree.specs.Tree.{treeOf};
 ghost use Rattle.dual.specs.Slab.{slabAnswer};
-ghost use Rattle.dual.specs.Dual.{DualSays, EntrySays, RefusedSays, AroundSays};
+ghost use Rattle.dual.specs.Dual.{DualSays, EntrySays, RefusedSays, AroundSays, TrustingSays};
 
 // How many keys were tried, or the number of the refusal.
 pub enum Tried {
@@ -94,13 +94,11 @@ fn refused(number: u32) -> Dual
     }
 }
 
-// The dual cell of an inner vertex at a level: entry i is the deepest ancestor of side i.
-pub fn dual_cell(keys: &[u64], distances: &[f32], leaves: &[u64], vertex: u64, level: u32) -> Dual
-    ensures { λ r. ⌜ DualSays (treeOf (now (keys .entry)) (now (distances .entry)) (now (leaves .entry))) level vertex (r .keys) (r .distances) (r .tried) ⌝ }
+// The dual cell, for one who knows that the tree is sound: who reads much checks it once. Of other tables, what the same climbs come to. A
+// table of one key is the root alone, which has none.
+pub fn dual_cell_trusting(keys: &[u64], distances: &[f32], vertex: u64, level: u32) -> Dual
+    ensures { λ r. ⌜ TrustingSays (now (keys .entry)) (now (distances .entry)) level vertex (r .keys) (r .distances) (r .tried) ⌝ }
 {
-    if !tree::sound(keys, distances, leaves) {
-        return refused(11);
-    }
     let v = Key { code: vertex };
     if !v.is_inner(level) {
         return refused(4);
@@ -109,6 +107,16 @@ pub fn dual_cell(keys: &[u64], distances: &[f32], leaves: &[u64], vertex: u64, l
         return refused(4);
     }
     around(keys, distances, vertex >> (63 - level * 3))
+}
+
+// The dual cell of an inner vertex at a level: entry i is the deepest ancestor of side i.
+pub fn dual_cell(keys: &[u64], distances: &[f32], leaves: &[u64], vertex: u64, level: u32) -> Dual
+    ensures { λ r. ⌜ DualSays (treeOf (now (keys .entry)) (now (distances .entry)) (now (leaves .entry))) level vertex (r .keys) (r .distances) (r .tried) ⌝ }
+{
+    if !tree::sound(keys, distances, leaves) {
+        return refused(11);
+    }
+    dual_cell_trusting(keys, distances, vertex, level)
 }
 
 // The slab of the dual cell of a vertex at a level: with exponent s the cube has 2^s slabs along z.
