@@ -22,6 +22,10 @@ found-nothing a was n e = subst (λ (b : Lookup). HandsFound b was 0 (foundAt 0 
 pub found-refused : (a : Lookup) (was : Found) (k : ℕ) → a ≡ lookup.Refused k → HandsFound a was k was
 found-refused a was k e = subst (λ (b : Lookup). HandsFound b was k was) (sym e) (refl, refl)
 
+-- an answer that equals another
+pub found-as : (a b : Lookup) (was : Found) (r : ℕ) (out : Found) → a ≡ b → HandsFound a was r out → HandsFound b was r out
+found-as a b was r out e h = subst (λ (x : Lookup). HandsFound x was r out) e h
+
 pub eight-is : (keys : List ℕ) (distances : List Float) (a : Tried) (was : Eight) (n : ℕ) → a ≡ tried.Keys n → HandsEight keys distances a was 0 (eightAt keys distances n)
 eight-is keys distances a was n e = subst (λ (b : Tried). HandsEight keys distances b was 0 (eightAt keys distances n)) (sym e) (refl, refl)
 

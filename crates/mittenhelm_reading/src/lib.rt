@@ -1,4 +1,5 @@
 // The boundary for hosts, reading: numbers and slices only. include/mittenhelm.h declares each function for C.
+use dual::Dual;
 use dual::SlabAnswer;
 use dual::Tried;
 use tree::Lookup;
@@ -6,7 +7,53 @@ use vertices::ListAnswer;
 ghost use Rattle.tree.specs.Tree.{treeOf, Sound, Decides};
 ghost use Rattle.vertices.specs.Listing.{listsOf};
 ghost use Rattle.dual.specs.Slab.{slabAnswer};
-ghost use Rattle.mittenhelm_reading.specs.Reading.{foundAt, HandsLookup, HandsList, eightAt, HandsDual, HandsSlab};
+ghost use Rattle.mittenhelm_reading.specs.Reading.{foundAt, HandsFound, HandsLookup, HandsList, eightAt, HandsEight, HandsDual, HandsSlab};
+
+// Hands a lookup over: what it found to the three places, or its refusal.
+pub fn hand_found(answer: Lookup, found: &mut u64, distance: &mut f32, tried: &mut u32) -> u32
+    ensures { λ r. ⌜
+        HandsFound answer (foundAt (now (found .entry)) (now (distance .entry)) (now (tried .entry))) r
+        (foundAt (now (found .exit)) (now (distance .exit)) (now (tried .exit))) ⌝ }
+{
+    match answer {
+        Lookup::Found {
+            key: k,
+            distance: d,
+            tried: n,
+        } => {
+            *found = k;
+            *distance = d;
+            *tried = n;
+            0
+        }
+        Lookup::Nothing { tried: n } => {
+            *found = 0;
+            *tried = n;
+            0
+        }
+        Lookup::Refused(number) => number,
+    }
+}
+
+// Hands a dual cell over: its arrays and count to the three places, or its refusal.
+pub fn hand_eight(cell: Dual, nodes: &mut [u64; 8], values: &mut [f32; 8], tried: &mut u32) -> u32
+    ensures { λ r. ⌜
+        HandsEight (cell .keys) (cell .distances) (cell .tried) (eightAt (now (nodes .entry)) (now (values .entry)) (now (tried .entry))) r
+        (eightAt (now (nodes .exit)) (now (values .exit)) (now (tried .exit))) ⌝ }
+{
+    let eight = cell.keys;
+    let theirs = cell.distances;
+    let answer = cell.tried;
+    match answer {
+        Tried::Keys(sum) => {
+            *nodes = eight;
+            *values = theirs;
+            *tried = sum;
+            0
+        }
+        Tried::Refused(number) => number,
+    }
+}
 
 #[no_mangle]
 pub extern "C" fn mittenhelm_sound(keys: &[u64], distances: &[f32], leaves: &[u64]) -> bool
@@ -31,24 +78,7 @@ pub extern "C" fn mittenhelm_look_up(
         (foundAt (now (found .exit)) (now (distance .exit)) (now (tried .exit))) ⌝ }
 {
     let answer = tree::look_up(keys, distances, leaves, key);
-    match answer {
-        Lookup::Found {
-            key: k,
-            distance: d,
-            tried: n,
-        } => {
-            *found = k;
-            *distance = d;
-            *tried = n;
-            0
-        }
-        Lookup::Nothing { tried: n } => {
-            *found = 0;
-            *tried = n;
-            0
-        }
-        Lookup::Refused(number) => number,
-    }
+    hand_found(answer, found, distance, tried)
 }
 
 #[no_mangle]
@@ -93,18 +123,7 @@ pub extern "C" fn mittenhelm_dual_cell(
         (eightAt (now (nodes .exit)) (now (values .exit)) (now (tried .exit))) ⌝ }
 {
     let cell = dual::dual_cell(keys, distances, leaves, vertex, level);
-    let eight = cell.keys;
-    let theirs = cell.distances;
-    let answer = cell.tried;
-    match answer {
-        Tried::Keys(n) => {
-            *nodes = eight;
-            *values = theirs;
-            *tried = n;
-            0
-        }
-        Tried::Refused(number) => number,
-    }
+    hand_eight(cell, nodes, values, tried)
 }
 
 #[no_mangle]

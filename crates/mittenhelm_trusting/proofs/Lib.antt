@@ -1,0 +1,3 @@
+-- Laws of what `mittenhelm_trusting` promises.
+pub mod Same
+pub mod One

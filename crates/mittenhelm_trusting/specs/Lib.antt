@@ -1,0 +1,2 @@
+-- What the contracts of `mittenhelm_trusting` cite.
+pub mod Trusting

@@ -1,0 +1,41 @@
+// The boundary for hosts, reading a tree that was checked before: numbers and slices only. include/mittenhelm.h declares each function for C.
+ghost use Rattle.tree.specs.Climb.{trustingOf};
+ghost use Rattle.mittenhelm_reading.specs.Reading.{foundAt, HandsFound, eightAt};
+ghost use Rattle.mittenhelm_trusting.specs.Trusting.{HandsTrusted};
+
+#[no_mangle]
+pub extern "C" fn mittenhelm_look_up_trusting(
+    keys: &[u64],
+    distances: &[f32],
+    key: u64,
+    found: &mut u64,
+    distance: &mut f32,
+    tried: &mut u32,
+) -> u32
+    ensures { λ r. ⌜
+        HandsFound (trustingOf (now (keys .entry)) (now (distances .entry)) key)
+        (foundAt (now (found .entry)) (now (distance .entry)) (now (tried .entry))) r
+        (foundAt (now (found .exit)) (now (distance .exit)) (now (tried .exit))) ⌝ }
+{
+    let answer = tree::look_up_trusting(keys, distances, key);
+    mittenhelm_reading::hand_found(answer, found, distance, tried)
+}
+
+#[no_mangle]
+pub extern "C" fn mittenhelm_dual_cell_trusting(
+    keys: &[u64],
+    distances: &[f32],
+    vertex: u64,
+    level: u32,
+    nodes: &mut [u64; 8],
+    values: &mut [f32; 8],
+    tried: &mut u32,
+) -> u32
+    ensures { λ r. ⌜
+        HandsTrusted (now (keys .entry)) (now (distances .entry)) level vertex
+        (eightAt (now (nodes .entry)) (now (values .entry)) (now (tried .entry))) r
+        (eightAt (now (nodes .exit)) (now (values .exit)) (now (tried .exit))) ⌝ }
+{
+    let cell = dual::dual_cell_trusting(keys, distances, vertex, level);
+    mittenhelm_reading::hand_eight(cell, nodes, values, tried)
+}
