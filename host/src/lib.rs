@@ -108,6 +108,27 @@ pub mod raw {
             tried: &mut u32,
         ) -> u32;
         pub fn mittenhelm_slab(vertex: u64, level: u32, exponent: u32, slab: &mut u32) -> u32;
+        pub fn mittenhelm_look_up_trusting(
+            keys: *const u64,
+            keys_length: usize,
+            distances: *const f32,
+            distances_length: usize,
+            key: u64,
+            found: &mut u64,
+            distance: &mut f32,
+            tried: &mut u32,
+        ) -> u32;
+        pub fn mittenhelm_dual_cell_trusting(
+            keys: *const u64,
+            keys_length: usize,
+            distances: *const f32,
+            distances_length: usize,
+            vertex: u64,
+            level: u32,
+            cell_keys: &mut [u64; 8],
+            cell_distances: &mut [f32; 8],
+            tried: &mut u32,
+        ) -> u32;
     }
 }
 
@@ -342,8 +363,8 @@ pub fn distance(state: &mut State, tables: &mut Tables, distance: f32) -> Result
     accepted(number, state.asked().map(|_| Request { key, centre: [x, y, z], half }))
 }
 
-/// Calls a function of the boundary with a tree's three tables first.
-macro_rules! with_tree {
+/// Calls a function of the boundary with a tree's keys and distances first.
+macro_rules! with_nodes {
     ($call:ident, $tree:expr $(, $more:expr)*) => {
         unsafe {
             raw::$call(
@@ -351,15 +372,21 @@ macro_rules! with_tree {
                 $tree.keys.len(),
                 $tree.distances.as_ptr(),
                 $tree.distances.len(),
-                $tree.leaves.as_ptr(),
-                $tree.leaves.len(),
                 $($more),*
             )
         }
     };
 }
 
-/// A finished tree, from a build or from elsewhere. Every call that reads it refuses one that isn't sound.
+/// Calls a function of the boundary with a tree's three tables first.
+macro_rules! with_tree {
+    ($call:ident, $tree:expr $(, $more:expr)*) => {
+        with_nodes!($call, $tree, $tree.leaves.as_ptr(), $tree.leaves.len() $(, $more)*)
+    };
+}
+
+/// A finished tree, from a build or from elsewhere. Every call that reads it goes over all of it first, and refuses one that isn't
+/// sound; who reads much has it `checked` once.
 #[derive(Clone, Copy, Debug)]
 pub struct Tree<'a> {
     /// The nodes' keys, ascending.
@@ -385,7 +412,25 @@ pub struct DualCell {
     pub tried: u32,
 }
 
-impl Tree<'_> {
+/// What a lookup answers that is handed its places.
+fn looked_up(look_up: impl FnOnce(&mut u64, &mut f32, &mut u32) -> u32) -> Result<Lookup, Refusal> {
+    let (mut found, mut distance, mut tried) = (0, 0.0, 0);
+    let number = look_up(&mut found, &mut distance, &mut tried);
+    let answer = match found {
+        0 => Lookup::Nothing { tried },
+        key => Lookup::Found { key, distance, tried },
+    };
+    accepted(number, answer)
+}
+
+/// What a call for a dual cell answers that is handed its places.
+fn around(dual_cell: impl FnOnce(&mut [u64; 8], &mut [f32; 8], &mut u32) -> u32) -> Result<DualCell, Refusal> {
+    let mut cell = DualCell { keys: [0; 8], distances: [0.0; 8], tried: 0 };
+    let number = dual_cell(&mut cell.keys, &mut cell.distances, &mut cell.tried);
+    accepted(number, cell)
+}
+
+impl<'a> Tree<'a> {
     /// Whether the tree is sound: as many keys as distances; keys strictly ascending, first 1, all cell keys of level at most 15;
     /// each other key's parent present; each key with all eight children or none; the leaves exactly those with none, ascending.
     pub fn sound(&self) -> bool {
@@ -393,15 +438,18 @@ impl Tree<'_> {
         sound != 0
     }
 
+    /// The tree, if it is sound, for calls that don't check it again; else the refusal that they would all give.
+    pub fn checked(self) -> Result<SoundTree<'a>, Refusal> {
+        if self.sound() {
+            Ok(SoundTree { tree: self })
+        } else {
+            Err(Refusal { number: 11 })
+        }
+    }
+
     /// The deepest present of a cell key and its ancestors of level 1 or more.
     pub fn look_up(&self, key: u64) -> Result<Lookup, Refusal> {
-        let (mut found, mut distance, mut tried) = (0, 0.0, 0);
-        let number = with_tree!(mittenhelm_look_up, self, key, &mut found, &mut distance, &mut tried);
-        let answer = match found {
-            0 => Lookup::Nothing { tried },
-            key => Lookup::Found { key, distance, tried },
-        };
-        accepted(number, answer)
+        looked_up(|found, distance, tried| with_tree!(mittenhelm_look_up, self, key, found, distance, tried))
     }
 
     /// Writes every vertex with its level, ascending, from a start place on into both tables. The answer is their number.
@@ -422,9 +470,37 @@ impl Tree<'_> {
 
     /// The deepest ancestors of the cells of the level on the eight sides of an inner vertex.
     pub fn dual_cell(&self, vertex: u64, level: u32) -> Result<DualCell, Refusal> {
-        let mut cell = DualCell { keys: [0; 8], distances: [0.0; 8], tried: 0 };
-        let number = with_tree!(mittenhelm_dual_cell, self, vertex, level, &mut cell.keys, &mut cell.distances, &mut cell.tried);
-        accepted(number, cell)
+        around(|keys, distances, tried| with_tree!(mittenhelm_dual_cell, self, vertex, level, keys, distances, tried))
+    }
+}
+
+/// A tree that was found sound. It borrows its tables, so they stay as they were when they were checked.
+#[derive(Clone, Copy, Debug)]
+pub struct SoundTree<'a> {
+    tree: Tree<'a>,
+}
+
+impl<'a> SoundTree<'a> {
+    /// The tables.
+    pub fn tree(&self) -> Tree<'a> {
+        self.tree
+    }
+
+    /// As `Tree::look_up`, without a check of the tree.
+    pub fn look_up(&self, key: u64) -> Result<Lookup, Refusal> {
+        looked_up(|found, distance, tried| with_nodes!(mittenhelm_look_up_trusting, self.tree, key, found, distance, tried))
+    }
+
+    /// As `Tree::list`, with its check of the tree.
+    pub fn list(&self, start: usize, vertices: &mut [u64], levels: &mut [u8]) -> Result<usize, Refusal> {
+        self.tree.list(start, vertices, levels)
+    }
+
+    /// As `Tree::dual_cell`, without a check of the tree.
+    pub fn dual_cell(&self, vertex: u64, level: u32) -> Result<DualCell, Refusal> {
+        around(|keys, distances, tried| {
+            with_nodes!(mittenhelm_dual_cell_trusting, self.tree, vertex, level, keys, distances, tried)
+        })
     }
 }
 

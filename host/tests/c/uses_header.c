@@ -50,7 +50,8 @@ static unsigned refused_at(size_t queue_length, uint32_t *refusal)
 }
 
 /* All of them, as a finished build of bound 2 leaves them. */
-#define TREE keys, 73, distances, 73, leaves, 64
+#define NODES keys, 73, distances, 73
+#define TREE NODES, leaves, 64
 
 /* Reads the tree that the last build left. Its distances are 1 for the root, then 2, 3 and so on, 73 for the last cell. */
 static void read_tree(uint64_t middle)
@@ -85,6 +86,21 @@ static void read_tree(uint64_t middle)
     expect(mittenhelm_dual_cell(TREE, middle, 2, cell_keys, cell_distances, &tried) == MITTENHELM_ACCEPTED, "dual_cell");
     expect(cell_keys[0] == 120 && cell_keys[7] == 71 && cell_distances[7] == 17.0f && tried == 8, "the middle's dual cell");
     expect(mittenhelm_dual_cell(TREE, 71, 2, cell_keys, cell_distances, &tried) == MITTENHELM_NOT_A_VERTEX, "no vertex");
+
+    expect(mittenhelm_look_up_trusting(NODES, 963, &found, &distance, &tried) == MITTENHELM_ACCEPTED, "look_up_trusting");
+    expect(found == 120 && distance == 66.0f && tried == 2, "the deepest ancestor in a trusted tree");
+    expect(mittenhelm_look_up_trusting(NODES, 16, &found, &distance, &tried) == MITTENHELM_NOT_A_CELL, "trust and no cell");
+    expect(mittenhelm_look_up_trusting(keys, 73, distances, 0, 120, &found, &distance, &tried) == MITTENHELM_ACCEPTED,
+        "look_up_trusting without distances");
+    expect(found == 0 && distance == 66.0f && tried == 2, "nothing without a distance");
+
+    cell_keys[0] = 5;
+    expect(mittenhelm_dual_cell_trusting(keys, 1, distances, 1, middle, 2, cell_keys, cell_distances, &tried)
+        == MITTENHELM_NOT_A_VERTEX, "dual_cell_trusting of the root alone");
+    expect(cell_keys[0] == 5 && tried == 2, "a refused dual cell");
+    expect(mittenhelm_dual_cell_trusting(NODES, middle, 2, cell_keys, cell_distances, &tried) == MITTENHELM_ACCEPTED,
+        "dual_cell_trusting");
+    expect(cell_keys[0] == 120 && cell_keys[7] == 71 && cell_distances[0] == 66.0f && tried == 8, "the same dual cell");
 
     expect(mittenhelm_slab(middle, 2, 15, &slab) == MITTENHELM_ACCEPTED && slab == 1 << 14, "slab");
     expect(mittenhelm_slab(middle, 2, 16, &slab) == MITTENHELM_ABOVE_FIFTEEN && slab == 1 << 14, "a slab exponent of 16");

@@ -2,10 +2,13 @@
 //! table must be the model's, the tree's tables as they were, and so what lies around them.
 
 use crate::lent::Fenced;
-use mittenhelm::raw::{mittenhelm_dual_cell, mittenhelm_list, mittenhelm_look_up, mittenhelm_slab, mittenhelm_sound};
+use mittenhelm::raw::{
+    mittenhelm_dual_cell, mittenhelm_dual_cell_trusting, mittenhelm_list, mittenhelm_look_up, mittenhelm_look_up_trusting,
+    mittenhelm_slab, mittenhelm_sound,
+};
 use oracle_answers::inputs::Random;
 use oracle_answers::model::reading::{self, DualCell, Lookup, Reading, Tables};
-use oracle_answers::model::{level, Answer};
+use oracle_answers::model::{level, Answer, DEEPEST};
 use std::fmt::{Debug, Display};
 
 /// What out parameters hold before a call.
@@ -30,15 +33,65 @@ pub struct Seen {
     pub cells: [u64; 21],
     /// Slabs by exponent.
     pub slabs: [u64; 16],
+    /// What was told of trees that aren't sound.
+    pub trusted: Trusted,
+}
+
+/// What the trusting calls answered.
+#[derive(Debug, Default)]
+pub struct Trusted {
+    pub refused: [u64; 13],
+    /// Lookups: which found the key itself, an ancestor, or nothing.
+    pub itself: u64,
+    pub ancestor: u64,
+    pub nothing: u64,
+    /// Dual cells: with all eight entries, some, or none.
+    pub whole_cells: u64,
+    pub part_cells: u64,
+    pub empty_cells: u64,
+}
+
+impl Trusted {
+    /// Asserts that every kind of answer was seen so often, and of the refusals 1 and 4 alone.
+    pub fn assert_every_answer(&self, times: u64) {
+        let Trusted { refused, itself, ancestor, nothing, whole_cells, part_cells, empty_cells } = self;
+        let answers = [itself, ancestor, nothing, whole_cells, part_cells, empty_cells];
+        assert!(answers.iter().all(|&&seen| seen >= times), "{self:?}");
+        assert_refused(refused, times, &[1, 4], self);
+    }
+
+    fn count_lookup(&mut self, asked: u64, answer: Answer<Lookup>) {
+        *match answer {
+            Ok(Lookup::Found { key, .. }) if key == asked => &mut self.itself,
+            Ok(Lookup::Found { .. }) => &mut self.ancestor,
+            Ok(Lookup::Nothing { .. }) => &mut self.nothing,
+            Err(number) => &mut self.refused[number as usize],
+        } += 1;
+    }
+
+    fn count_cell(&mut self, answer: Answer<DualCell>) {
+        let entries = answer.map(|cell| cell.keys.iter().filter(|&&key| key != 0).count());
+        *match entries {
+            Ok(8) => &mut self.whole_cells,
+            Ok(0) => &mut self.empty_cells,
+            Ok(_) => &mut self.part_cells,
+            Err(number) => &mut self.refused[number as usize],
+        } += 1;
+    }
+}
+
+/// Asserts that each refusal of the list was seen so often, and no other at all.
+fn assert_refused(refused: &[u64], times: u64, numbers: &[usize], all: &impl Debug) {
+    for (number, &seen) in refused.iter().enumerate() {
+        let enough = if numbers.contains(&number) { seen >= times } else { seen == 0 };
+        assert!(enough, "refusal {number} was seen {seen} times: {all:?}");
+    }
 }
 
 impl Seen {
     /// Asserts that each refusal of the list was seen so often, and no other at all.
     pub fn assert_refused(&self, times: u64, numbers: &[usize]) {
-        for (number, &seen) in self.refused.iter().enumerate() {
-            let enough = if numbers.contains(&number) { seen >= times } else { seen == 0 };
-            assert!(enough, "refusal {number} was seen {seen} times: {self:?}");
-        }
+        assert_refused(&self.refused, times, numbers, self);
     }
 
     fn count_lookup(&mut self, asked: u64, answer: Lookup) {
@@ -66,22 +119,26 @@ pub struct Given {
     pub reading: Reading,
 }
 
+/// Calls a function of the boundary with the keys and distances first.
+macro_rules! with_nodes {
+    ($call:ident, $given:expr $(, $more:expr)*) => {{
+        let (keys, distances) = ($given.keys.part(), $given.distances.part());
+        unsafe { $call(keys.as_ptr(), keys.len(), distances.as_ptr().cast(), distances.len(), $($more),*) }
+    }};
+}
+
 /// Calls a function of the boundary with the three tables first.
 macro_rules! with_tree {
     ($call:ident, $given:expr $(, $more:expr)*) => {{
-        let (keys, distances, leaves) = ($given.keys.part(), $given.distances.part(), $given.leaves.part());
-        unsafe {
-            $call(
-                keys.as_ptr(),
-                keys.len(),
-                distances.as_ptr().cast(),
-                distances.len(),
-                leaves.as_ptr(),
-                leaves.len(),
-                $($more),*
-            )
-        }
+        let leaves = $given.leaves.part();
+        with_nodes!($call, $given, leaves.as_ptr(), leaves.len() $(, $more)*)
     }};
+}
+
+/// A descendant of a number, at a level that is at least its own.
+pub fn below(key: u64, at: u32, random: &mut Random) -> u64 {
+    let deeper = 3 * (at - level(key));
+    key << deeper | random.bits() & ((1 << deeper) - 1)
 }
 
 impl Given {
@@ -108,21 +165,56 @@ impl Given {
         expected
     }
 
+    /// A number that asks for something in the tree, or beside it.
+    pub fn asked(&self, random: &mut Random) -> u64 {
+        let keys = &self.tables.keys;
+        let key = if keys.is_empty() { random.number() } else { keys[random.below(keys.len() as u64) as usize] };
+        match random.below(8) {
+            0 | 1 => key,
+            2 => below(key, (level(key) + 1 + random.below(3) as u32).min(DEEPEST), random),
+            3 | 4 => below(key, level(key) + random.below((DEEPEST - level(key) + 1) as u64) as u32, random),
+            5 => key.wrapping_add(random.below(9)).wrapping_sub(4),
+            6 => random.cell(),
+            _ => random.number(),
+        }
+    }
+
+    /// Both lookups, of which the trusting one answers an unsound tree too.
     pub fn look_up(&self, key: u64, seen: &mut Seen) -> Answer<Lookup> {
-        let expected = self.reading.look_up(key);
-        let (mut found, mut distance, mut tried) = (UNTOUCHED, f32::from_bits(UNTOUCHED_FLOAT), UNTOUCHED_COUNT);
-        let number = with_tree!(mittenhelm_look_up, self, key, &mut found, &mut distance, &mut tried);
-        let expected_out = match expected {
-            Ok(Lookup::Found { key, distance, tried }) => (0, key, one_nan(distance), tried),
-            Ok(Lookup::Nothing { tried }) => (0, 0, UNTOUCHED_FLOAT, tried),
-            Err(number) => (number, UNTOUCHED, UNTOUCHED_FLOAT, UNTOUCHED_COUNT),
-        };
-        self.agree(&(number, found, one_nan(distance.to_bits()), tried), &expected_out, format_args!("look_up({key:#x})"));
+        let (expected, trusting) = (self.reading.look_up(key), self.tables.look_up_trusting(key));
+        self.agree_lookup(expected, format_args!("look_up({key:#x})"), |found, distance, tried| {
+            with_tree!(mittenhelm_look_up, self, key, found, distance, tried)
+        });
+        self.agree_lookup(trusting, format_args!("look_up_trusting({key:#x})"), |found, distance, tried| {
+            with_nodes!(mittenhelm_look_up_trusting, self, key, found, distance, tried)
+        });
+        if self.reading.is_sound() {
+            assert_eq!(trusting, expected, "{}: the climb of a sound tree", self.told(&format_args!("look_up({key:#x})")));
+        } else {
+            seen.trusted.count_lookup(key, trusting);
+        }
         match expected {
             Ok(answer) => seen.count_lookup(key, answer),
             refused => seen.count_refusal(refused),
         }
         expected
+    }
+
+    /// Makes a lookup that is handed its places, and sees that it hands over what is expected.
+    fn agree_lookup(
+        &self,
+        expected: Answer<Lookup>,
+        call: impl Display,
+        look_up: impl FnOnce(&mut u64, &mut f32, &mut u32) -> u32,
+    ) {
+        let (mut found, mut distance, mut tried) = (UNTOUCHED, f32::from_bits(UNTOUCHED_FLOAT), UNTOUCHED_COUNT);
+        let number = look_up(&mut found, &mut distance, &mut tried);
+        let expected_out = match expected {
+            Ok(Lookup::Found { key, distance, tried }) => (0, key, one_nan(distance), tried),
+            Ok(Lookup::Nothing { tried }) => (0, 0, UNTOUCHED_FLOAT, tried),
+            Err(number) => (number, UNTOUCHED, UNTOUCHED_FLOAT, UNTOUCHED_COUNT),
+        };
+        self.agree(&(number, found, one_nan(distance.to_bits()), tried), &expected_out, call);
     }
 
     /// Lists from a start place on, in a vertex table and a level table of these lengths.
@@ -158,28 +250,21 @@ impl Given {
         expected
     }
 
+    /// Both calls for a dual cell, of which the trusting one answers an unsound tree too.
     pub fn dual_cell(&self, vertex: u64, level: u32, seen: &mut Seen) -> Answer<DualCell> {
-        let expected = self.reading.dual_cell(vertex, level);
-        let (mut keys, mut distances, mut tried) =
-            (Fenced::new(&[UNTOUCHED; 8]), Fenced::new(&[UNTOUCHED_FLOAT; 8]), UNTOUCHED_COUNT);
-        let number = with_tree!(
-            mittenhelm_dual_cell,
-            self,
-            vertex,
-            level,
-            &mut *keys.lend().as_mut_ptr().cast(),
-            &mut *distances.lend().as_mut_ptr().cast(),
-            &mut tried
-        );
-        let (expected_number, cell) = match expected {
-            Ok(cell) => (0, cell),
-            Err(number) => (number, DualCell { keys: [UNTOUCHED; 8], distances: [UNTOUCHED_FLOAT; 8], tried: UNTOUCHED_COUNT }),
-        };
+        let (expected, trusting) = (self.reading.dual_cell(vertex, level), self.tables.dual_cell_trusting(vertex, level));
         let call = format!("dual_cell({vertex:#x}, {level})");
-        self.agree(&(number, tried), &(expected_number, cell.tried), &call);
-        keys.assert_holds(&cell.keys, "eight keys", &|| self.told(&call));
-        distances.lend().iter_mut().for_each(|bits| *bits = one_nan(*bits));
-        distances.assert_holds(&cell.distances.map(one_nan), "eight distances", &|| self.told(&call));
+        self.agree_cell(expected, &call, |keys, distances, tried| {
+            with_tree!(mittenhelm_dual_cell, self, vertex, level, keys, distances, tried)
+        });
+        self.agree_cell(trusting, &format!("trusting {call}"), |keys, distances, tried| {
+            with_nodes!(mittenhelm_dual_cell_trusting, self, vertex, level, keys, distances, tried)
+        });
+        if self.reading.is_sound() {
+            assert_eq!(trusting, expected, "{}: the climbs of a sound tree", self.told(&call));
+        } else {
+            seen.trusted.count_cell(trusting);
+        }
         match expected {
             Ok(_) => seen.cells[level as usize] += 1,
             refused => seen.count_refusal(refused),
@@ -187,10 +272,33 @@ impl Given {
         expected
     }
 
-    /// Each call once, with parameters of all kinds. Of an unsound tree nothing is told, whatever else is wrong.
+    /// Makes a call for a dual cell that is handed its places, and sees that it hands over what is expected.
+    fn agree_cell(
+        &self,
+        expected: Answer<DualCell>,
+        call: &str,
+        dual_cell: impl FnOnce(&mut [u64; 8], &mut [f32; 8], &mut u32) -> u32,
+    ) {
+        let (mut keys, mut distances, mut tried) =
+            (Fenced::new(&[UNTOUCHED; 8]), Fenced::new(&[UNTOUCHED_FLOAT; 8]), UNTOUCHED_COUNT);
+        // Eight places each; a float may hold any bits.
+        let (lent_keys, lent_distances) =
+            unsafe { (&mut *keys.lend().as_mut_ptr().cast(), &mut *distances.lend().as_mut_ptr().cast()) };
+        let number = dual_cell(lent_keys, lent_distances, &mut tried);
+        let (expected_number, cell) = match expected {
+            Ok(cell) => (0, cell),
+            Err(number) => (number, DualCell { keys: [UNTOUCHED; 8], distances: [UNTOUCHED_FLOAT; 8], tried: UNTOUCHED_COUNT }),
+        };
+        self.agree(&(number, tried), &(expected_number, cell.tried), call);
+        keys.assert_holds(&cell.keys, "eight keys", &|| self.told(&call));
+        distances.lend().iter_mut().for_each(|bits| *bits = one_nan(*bits));
+        distances.assert_holds(&cell.distances.map(one_nan), "eight distances", &|| self.told(&call));
+    }
+
+    /// Each call once, with parameters of all kinds. Of an unsound tree those that check it tell nothing, whatever else is wrong.
     pub fn every_call(&self, random: &mut Random, seen: &mut Seen) {
         self.sound(seen);
-        let _ = self.look_up(random.number(), seen);
+        let _ = self.look_up(self.asked(random), seen);
         let _ = self.list(random.below(3) as usize, [[0, 2000][random.below(2) as usize]; 2], seen);
         let (vertex, level) = random.vertex_and_level();
         let _ = self.dual_cell(vertex, level, seen);

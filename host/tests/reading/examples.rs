@@ -157,6 +157,8 @@ fn wrappers() {
         let tree = Tree { keys: &tables.keys, distances: &distances, leaves: &tables.leaves };
         let model = Reading::of(&tables);
         assert_eq!(tree.sound(), model.is_sound());
+        let checked = tree.checked();
+        assert_eq!(checked.map(|_| ()).map_err(number), if model.is_sound() { Ok(()) } else { Err(11) });
         for _ in 0..50 {
             let key = random.number();
             let expected = model.look_up(key).map(|answer| match answer {
@@ -166,6 +168,7 @@ fn wrappers() {
                 reading::Lookup::Nothing { tried } => Lookup::Nothing { tried },
             });
             assert_eq!(tree.look_up(key).map_err(number), expected);
+            assert_eq!(checked.and_then(|tree| tree.look_up(key)).map_err(number), expected);
             let (vertex, level) = random.vertex_and_level();
             let expected = model.dual_cell(vertex, level).map(|cell| DualCell {
                 keys: cell.keys,
@@ -173,6 +176,7 @@ fn wrappers() {
                 tried: cell.tried,
             });
             assert_eq!(tree.dual_cell(vertex, level).map_err(number), expected);
+            assert_eq!(checked.and_then(|tree| tree.dual_cell(vertex, level)).map_err(number), expected);
             let exponent = random.below(18) as u32;
             assert_eq!(slab(vertex, level, exponent).map_err(number), reading::slab(vertex, level, exponent));
         }
@@ -180,7 +184,11 @@ fn wrappers() {
         let (mut vertices, mut levels) = (vec![7; lengths[0]], vec![7; lengths[1]]);
         let (mut expected_vertices, mut expected_levels) = (vertices.clone(), levels.clone());
         let expected = model.list(start, &mut expected_vertices, &mut expected_levels);
+        let (mut again_vertices, mut again_levels) = (vertices.clone(), levels.clone());
         assert_eq!(tree.list(start, &mut vertices, &mut levels).map_err(number), expected);
-        assert_eq!((vertices, levels), (expected_vertices, expected_levels));
+        assert_eq!((&vertices, &levels), (&expected_vertices, &expected_levels));
+        let again = checked.and_then(|tree| tree.list(start, &mut again_vertices, &mut again_levels));
+        assert_eq!(again.map_err(number), expected);
+        assert_eq!((again_vertices, again_levels), (expected_vertices, expected_levels));
     }
 }

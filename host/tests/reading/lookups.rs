@@ -1,30 +1,10 @@
 //! Lookups of every kind: each level, keys that are there, keys whose ancestor is, and what is no cell key.
 
-use crate::calls::{Given, Seen};
+use crate::calls::{below, Given, Seen};
 use oracle_answers::inputs::{first_cell, last_cell, powers, Random};
 use oracle_answers::model::reading::Lookup;
 use oracle_answers::model::{level, DEEPEST};
 use oracle_answers::trees::{grown, Growth, GROWTHS};
-
-/// A descendant of a cell, at a level that is at least its own.
-fn below(key: u64, at: u32, random: &mut Random) -> u64 {
-    let deeper = 3 * (at - level(key));
-    key << deeper | random.bits() & ((1 << deeper) - 1)
-}
-
-/// A number that asks for something in the tree, or beside it.
-fn asked(given: &Given, random: &mut Random) -> u64 {
-    let place = random.below(given.tables.keys.len() as u64) as usize;
-    let key = given.tables.keys[place];
-    match random.below(8) {
-        0 | 1 => key,
-        2 => below(key, (level(key) + 1 + random.below(3) as u32).min(DEEPEST), random),
-        3 | 4 => below(key, level(key) + random.below((DEEPEST - level(key) + 1) as u64) as u32, random),
-        5 => key.wrapping_add(random.below(9)).wrapping_sub(4),
-        6 => random.cell(),
-        _ => random.number(),
-    }
-}
 
 /// The number of keys tried is that of the climb, which the levels settle.
 fn assert_climbed(asked: u64, answer: Lookup) {
@@ -44,7 +24,7 @@ fn of_grown_trees() {
         let growth = GROWTHS[round % 3];
         let given = Given::new(grown(growth, round / 3 % 60, 15, &mut random));
         for _ in 0..150 {
-            let key = asked(&given, &mut random);
+            let key = given.asked(&mut random);
             if let Ok(answer) = given.look_up(key, &mut seen) {
                 assert_climbed(key, answer);
             }

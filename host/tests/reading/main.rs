@@ -16,3 +16,4 @@ mod lookups;
 mod slabs;
 mod soundness;
 mod text;
+mod trusting;

@@ -229,6 +229,7 @@ fn each_condition_broken() {
     println!("each condition broken: {seen:?}");
     assert!(seen.sound == 0 && seen.unsound > 44_000, "{seen:?}");
     seen.assert_refused(30_000, &[11]);
+    seen.trusted.assert_every_answer(10);
 }
 
 /// Real trees of every kind and bound; grown ones, of the root alone, of nine nodes and up to level 15.
@@ -347,6 +348,7 @@ fn near_sound_trees() {
     }
     println!("near sound trees: {seen:?}");
     assert!(seen.sound > 1000 && seen.unsound > 150_000, "{seen:?}");
+    seen.trusted.assert_every_answer(100);
 }
 
 /// Any tables at all, of any lengths, empty ones too.

@@ -1,4 +1,5 @@
-//! Document 01, "Reading a finished tree", condition by condition over sets and maps; and what the program `counts` prints.
+//! Document 01, "Reading a finished tree", condition by condition over sets and maps; the search by halving on any tables; and what
+//! the program `counts` prints.
 
 use super::build::{self, STATE_WORDS};
 use super::{every_third_bit, is_cell, is_inner, level, side, vertex, Answer};
@@ -133,18 +134,67 @@ impl Reading {
         if !is_inner(vertex, level) || tree.nodes.len() == 1 {
             return Err(4);
         }
-        let mut cell = DualCell { keys: [0; 8], distances: [0; 8], tried: 0 };
-        for which in 0..8 {
-            match tree.look_up(side(vertex, level, which as u32).expect("an inner vertex")) {
-                Lookup::Found { key, distance, tried } => {
-                    cell.keys[which] = key;
-                    cell.distances[which] = distance;
-                    cell.tried += tried;
-                }
-                Lookup::Nothing { .. } => unreachable!("all of level 1 is present"),
+        let cell = around(vertex, level, |side| tree.look_up(side));
+        assert!(cell.keys.iter().all(|&key| key != 0), "all of level 1 is present");
+        Ok(cell)
+    }
+}
+
+/// What is looked up on the eight sides of an inner vertex; where nothing is found the entry is 0 and 0.
+fn around(vertex: u64, level: u32, look_up: impl Fn(u64) -> Lookup) -> DualCell {
+    let mut cell = DualCell { keys: [0; 8], distances: [0; 8], tried: 0 };
+    for which in 0..8 {
+        match look_up(side(vertex, level, which as u32).expect("an inner vertex")) {
+            Lookup::Found { key, distance, tried } => {
+                cell.keys[which] = key;
+                cell.distances[which] = distance;
+                cell.tried += tried;
+            }
+            Lookup::Nothing { tried } => cell.tried += tried,
+        }
+    }
+    cell
+}
+
+/// Where halving ends that looks for a key: the middle one is looked at, and it goes on behind that where it is less than the key,
+/// else before it, until nothing is left.
+fn halving_ends(keys: &[u64], key: u64) -> usize {
+    let middle = keys.len() / 2;
+    match keys.get(middle) {
+        None => 0,
+        Some(&there) if there < key => middle + 1 + halving_ends(&keys[middle + 1..], key),
+        Some(_) => halving_ends(&keys[..middle], key),
+    }
+}
+
+/// Reading without a check, of tables that needn't hold a sound tree.
+impl Tables {
+    /// The climb: the key and its ancestors of level 1 or more are tried, until one stands where halving for it ends. There are as
+    /// many nodes as both keys and distances.
+    fn climb(&self, asked: u64) -> Lookup {
+        let nodes = &self.keys[..self.keys.len().min(self.distances.len())];
+        for tried in 1..=level(asked) {
+            let key = asked >> (3 * (tried - 1));
+            let place = halving_ends(nodes, key);
+            if nodes.get(place) == Some(&key) {
+                return Lookup::Found { key, distance: self.distances[place], tried };
             }
         }
-        Ok(cell)
+        Lookup::Nothing { tried: level(asked) }
+    }
+
+    pub fn look_up_trusting(&self, key: u64) -> Answer<Lookup> {
+        if !is_cell(key) {
+            return Err(1);
+        }
+        Ok(self.climb(key))
+    }
+
+    pub fn dual_cell_trusting(&self, vertex: u64, level: u32) -> Answer<DualCell> {
+        if !is_inner(vertex, level) || self.keys.len() == 1 {
+            return Err(4);
+        }
+        Ok(around(vertex, level, |side| self.climb(side)))
     }
 }
 
