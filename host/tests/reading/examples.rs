@@ -115,6 +115,8 @@ fn refusals_in_words() {
     let root = Tree { keys: &[1], distances: &[2.0], leaves: &[1] };
     let none = Tree { leaves: &[], ..root };
     assert!(root.sound() && !none.sound());
+    assert_eq!(root.checked().map(|checked| checked.tree().keys), Ok(root.keys));
+    assert_eq!(told(none.checked().map(|_| ())), "refused 11: not a sound tree");
     assert_eq!(told(none.look_up(0).map(|_| ())), "refused 11: not a sound tree");
     assert_eq!(told(root.look_up(0).map(|_| ())), "refused 1: not a cell key");
     assert_eq!(told(root.list(0, &mut [], &mut []).map(|_| ())), "accepted");
