@@ -78,7 +78,7 @@ fn stopped(refusal: Refusal, state: &State, tables: &Tables) -> Fault {
     let lower = fitting_bound(state, tables, level).map(|bound| format!("--bound {bound}, which fits"));
     let more = Some(format!("--nodes above {room}, up to {MOST_NODES}")).filter(|_| room < MOST_NODES as usize);
     let ways: Vec<String> = lower.into_iter().chain(more).collect();
-    Fault::refusal(refusal, &format!("{come}\nWhat helps: {}.", ways.join(", or ")))
+    Fault::refusal(refusal, &format!("{come}\nWhat can help: {}.", ways.join(", or ")))
 }
 
 /// The greatest bound whose tree fits, if there is one. Cells are asked for level by level: so all above the level that was reached were

@@ -55,7 +55,7 @@ fn memory(page: &mut String, tables: &[Table]) -> fmt::Result {
 }
 
 fn slabs(page: &mut String, cut: &Cut, slabs: &[Count]) -> fmt::Result {
-    writeln!(page, "\n{:<13} {:>7} {:>9} {:>6}  {:>7}", "slab", "z from", "to", "cells", "crossed")?;
+    writeln!(page, "\n{:<14} {:>7} {:>9} {:>6}  {:>7}", "slab", "z from", "to", "cells", "crossed")?;
     let most = slabs.iter().map(|count| count.cells).max().unwrap_or(0);
     let mut first = 0;
     while first < slabs.len() {
@@ -73,6 +73,6 @@ fn line(page: &mut String, cut: &Cut, first: usize, last: usize, count: Count, m
     let (low, high) = (cut.height(first as f64), cut.height(last as f64 + 1.0));
     let (decimals, bar) = (cut.exponent.min(5) as usize, (BAR * count.cells / most.max(1)).max(count.cells.min(1)));
     let Count { cells, crossed } = count;
-    let text = format!("{name:<13} {low:>7.decimals$} {high:>9.decimals$} {cells:>6}  {crossed:>7}  {}", "#".repeat(bar));
+    let text = format!("{name:<14} {low:>7.decimals$} {high:>9.decimals$} {cells:>6}  {crossed:>7}  {}", "#".repeat(bar));
     writeln!(page, "{}", text.trim_end())
 }

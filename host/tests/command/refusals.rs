@@ -46,7 +46,7 @@ fn check(said: &str, number: u32, state: &[u64], nodes: usize) -> Option<u32> {
     };
     let lines: Vec<&str> = said.lines().collect();
     assert_eq!(lines[..2], [&format!("mittenhelm: refused {number}: {reason}"), &told]);
-    assert!(lines.len() == 3 && lines[2].starts_with("What helps: -"), "{said}");
+    assert!(lines.len() == 3 && lines[2].starts_with("What can help: -"), "{said}");
     assert_eq!(lines[2].contains(&format!("--nodes above {nodes}, up to 4096")), nodes < 4096, "{said}");
     let (_, fitting) = lines[2].split_once("--bound ")?;
     let (fitting, _) = fitting.split_once(", which fits")?;
