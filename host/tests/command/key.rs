@@ -1,16 +1,6 @@
-//! The command as a person runs it.
+//! `mittenhelm key`.
 
-use std::process::{Command, Output};
-
-fn run(words: &[&str]) -> Output {
-    Command::new(env!("CARGO_BIN_EXE_mittenhelm")).args(words).output().expect("a command that runs")
-}
-
-fn printed(words: &[&str]) -> String {
-    let output = run(words);
-    assert!(output.status.success() && output.stderr.is_empty(), "{words:?}: {output:?}");
-    String::from_utf8(output.stdout).expect("plain text")
-}
+use crate::run::printed;
 
 #[test]
 fn a_cell() {
@@ -51,31 +41,4 @@ fn refusals_in_words() {
     assert!(page.ends_with("\nvertices   refused 1: not a cell key\n"), "{page}");
     let page = printed(&["key", "0xffffffffffffffff"]);
     assert!(page.contains("\nchildren   refused 3: child of level 21"), "{page}");
-}
-
-#[test]
-fn help() {
-    assert!(printed(&["--help"]).starts_with("usage: mittenhelm key NUMBER\n"));
-}
-
-#[test]
-fn bad_arguments() {
-    for words in [
-        &[][..],
-        &["leaf"],
-        &["key"],
-        &["key", "1", "2"],
-        &["key", "x"],
-        &["key", ""],
-        &["key", "-1"],
-        &["key", "+1"],
-        &["key", "0x"],
-        &["key", "18446744073709551616"],
-    ] {
-        let output = run(words);
-        assert_eq!(output.status.code(), Some(2), "{words:?}");
-        assert!(output.stdout.is_empty(), "{words:?}");
-        let told = String::from_utf8(output.stderr).expect("plain text");
-        assert!(told.starts_with("mittenhelm: ") && told.lines().count() == 1, "{words:?}: {told}");
-    }
 }

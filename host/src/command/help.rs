@@ -1,0 +1,62 @@
+//! What `mittenhelm --help` prints.
+
+use super::build::{LEAST_BOUND, MOST_NODES};
+use super::csv::TABLES;
+use super::fields::BUILT_INS;
+use super::grid::POINTS;
+use super::sample::USUAL_POINTS;
+use super::slice::{MOST_BOUND, MOST_EXPONENT, USUAL_BOUND, USUAL_EXPONENT};
+
+pub fn page() -> String {
+    let parts: String = BUILT_INS.iter().map(|part| format!("  {:<11} {}\n", part.name, part.about)).collect();
+    let table = |name, about, columns| format!("  {name:<11} {about}:\n              {columns}\n");
+    let tables: String = TABLES.iter().map(|each| table(each.name, each.about, each.columns)).collect();
+    let (least, most) = (POINTS.start(), POINTS.end());
+    let (usual_slabs, most_slabs) = (1 << USUAL_EXPONENT, 1 << MOST_EXPONENT);
+    format!(
+        "\
+usage: mittenhelm slice PART [--bound N] [--slabs N] [--nodes N] [--csv TABLE]
+                             [--svg FILE [--slab K]]
+       mittenhelm sample PART [--points N | --points NX,NY,NZ] [-o FILE]
+       mittenhelm key NUMBER
+
+slice builds the octree over a part, answering one asked distance after another,
+checks the tree, lists its vertices and gets the dual cell of each. It reports
+what there is, what memory that took, and how many cells each slab has.
+  --bound N   split no cell of level N: 0 to {MOST_BOUND}, default {USUAL_BOUND};
+              below {LEAST_BOUND} it is as {LEAST_BOUND}
+  --slabs N   slabs along z: a power of two from 1 to {most_slabs}, default {usual_slabs}
+  --nodes N   lend room for N nodes: 1 to {MOST_NODES}, default {MOST_NODES}; for leaves and
+              in the queue there are (7N + 1) / 8 places
+  --csv TABLE print a table for programs, not the report
+  --svg FILE  draw a slab: the leaves that its middle plane cuts, y upwards, and
+              the vertices of its cells
+  --slab K    the slab that is drawn, from 0 on, default the middle one
+
+sample writes a part as a grid file, to FILE or to standard output.
+  --points N  samples on each axis: {least} to {most}, default {USUAL_POINTS}; or three such
+              numbers, for x, y and z
+
+key prints what the number is as an octree key: level, parent, children, half
+size, centre, and for each corner its vertex and the cells on the vertex's eight
+sides. NUMBER is decimal, or hexadecimal after 0x, up to 64 bits.
+
+PART is a built-in part, or else a grid file (./sphere is a file of that name):
+{parts}
+A grid file is a line `mittenhelm-grid NX NY NZ`, then NX x NY x NZ samples as
+f32, little-endian, x fastest, then y, then z. Each axis has {least} to {most}, the first
+at 0 and the last at 1. A sample is the distance to the part's surface, negative
+inside, where the cube's side is 1; it is finite. Between samples the field is
+interpolated trilinearly.
+
+TABLE is one of these. A row with the columns' names goes first, then there is a
+row for
+{tables}
+A cell is crossed if the part's surface goes through it: of its eight distances
+some are below 0 and some aren't. Fractions have as many decimals as f32 needs.
+
+The status is 0 where all was done, 1 where the library refused or a result
+couldn't be written, 2 for bad arguments or a bad grid file.
+"
+    )
+}

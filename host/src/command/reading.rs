@@ -1,0 +1,106 @@
+//! What is read from a finished tree: its leaves, its vertices, and the dual cell and slab of each.
+
+use super::fault::Fault;
+use super::fields::Point;
+use super::progress::Progress;
+use mittenhelm::{DualCell, Refusal, Tree};
+
+/// Splitting a leaf makes no more vertices: of 27 places, the eight corners were there.
+const VERTICES_OF_A_SPLIT: usize = 19;
+
+#[derive(Clone, Copy)]
+pub struct Leaf {
+    pub key: u64,
+    pub centre: Point,
+    pub half: f32,
+    pub distance: f32,
+}
+
+/// A vertex with its dual cell.
+pub struct Cell {
+    pub vertex: u64,
+    pub level: u32,
+    pub slab: u32,
+    pub dual: DualCell,
+}
+
+/// How many dual cells a slab has, and how many of them the surface goes through.
+#[derive(Clone, Copy, Default)]
+pub struct Count {
+    pub cells: usize,
+    pub crossed: usize,
+}
+
+pub struct Reading {
+    pub nodes: usize,
+    pub leaves: Vec<Leaf>,
+    pub cells: Vec<Cell>,
+    pub slabs: Vec<Count>,
+    /// How many places were lent for the list of vertices.
+    pub list_places: usize,
+}
+
+impl Reading {
+    pub fn new(tree: &Tree, exponent: u32, progress: &mut Progress) -> Result<Self, Fault> {
+        if !tree.sound() {
+            return Err(Fault::output("the finished build left a tree that isn't sound"));
+        }
+        let list_places = VERTICES_OF_A_SPLIT * (tree.keys.len() - tree.leaves.len());
+        let (mut vertices, mut levels) = (vec![0; list_places], vec![0; list_places]);
+        let count = tree.list(0, &mut vertices, &mut levels)?;
+        let mut cells = Vec::with_capacity(count);
+        for (&vertex, &level) in vertices.iter().zip(&levels).take(count) {
+            cells.push(Cell::of(tree, vertex, level.into(), exponent)?);
+            progress.say_part("dual cells", cells.len(), count);
+        }
+        let mut slabs = vec![Count::default(); 1 << exponent];
+        for cell in &cells {
+            slabs[cell.slab as usize].add(cell);
+        }
+        Ok(Reading { nodes: tree.keys.len(), leaves: leaves(tree)?, cells, slabs, list_places })
+    }
+
+    pub fn together(&self) -> Count {
+        let mut count = Count::default();
+        self.cells.iter().for_each(|cell| count.add(cell));
+        count
+    }
+}
+
+impl Count {
+    fn add(&mut self, cell: &Cell) {
+        self.cells += 1;
+        self.crossed += usize::from(cell.is_crossed());
+    }
+}
+
+impl Cell {
+    fn of(tree: &Tree, vertex: u64, level: u32, exponent: u32) -> Result<Self, Refusal> {
+        let slab = mittenhelm::slab(vertex, level, exponent)?;
+        // The tree was found sound, and is checked again for each cell here: for a tree of some thousand nodes it is soon done.
+        let dual = tree.dual_cell(vertex, level)?;
+        Ok(Cell { vertex, level, slab, dual })
+    }
+
+    /// Whether the part's surface goes through: some of its nodes are inside, and some aren't.
+    pub fn is_crossed(&self) -> bool {
+        let inside = self.dual.distances.iter().filter(|&&distance| distance < 0.0).count();
+        (1..8).contains(&inside)
+    }
+
+    /// Where the vertex lies: it is the low corner of the cell of level 21 whose key it is.
+    pub fn place(&self) -> Result<Point, Refusal> {
+        let half = mittenhelm::half_size(self.vertex)?;
+        Ok(mittenhelm::centre(self.vertex)?.map(|middle| middle - half))
+    }
+}
+
+fn leaves(tree: &Tree) -> Result<Vec<Leaf>, Refusal> {
+    let mut nodes = tree.keys.iter().zip(tree.distances);
+    let leaf = |&key| {
+        // Both ascend, so that the search goes on where it was.
+        let distance = nodes.find(|(&node, _)| node == key).map_or(f32::NAN, |(_, &distance)| distance);
+        Ok(Leaf { key, centre: mittenhelm::centre(key)?, half: mittenhelm::half_size(key)?, distance })
+    };
+    tree.leaves.iter().map(leaf).collect()
+}

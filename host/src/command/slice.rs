@@ -1,0 +1,87 @@
+//! `mittenhelm slice`: the tree over a part, and what each slab of it holds.
+
+use super::arguments::{whole, Arguments};
+use super::build::{Built, Lent, MOST_NODES};
+use super::csv;
+use super::fault::Fault;
+use super::memory;
+use super::output::{print, save_by, shown};
+use super::part::Part;
+use super::progress::Progress;
+use super::reading::Reading;
+use super::report::{self, Picture};
+use super::svg;
+use std::ffi::OsString;
+use std::path::Path;
+
+pub const MOST_BOUND: u32 = 15;
+pub const MOST_EXPONENT: u32 = 15;
+pub const USUAL_BOUND: u32 = 4;
+pub const USUAL_EXPONENT: u32 = 4;
+
+/// How a part is cut.
+pub struct Cut {
+    pub bound: u32,
+    /// There are two to the power of this many slabs.
+    pub exponent: u32,
+    pub nodes: u32,
+}
+
+pub fn run(words: &[OsString]) -> Result<(), Fault> {
+    let arguments = Arguments::new(words, &["--bound", "--slabs", "--nodes", "--csv", "--svg", "--slab"])?;
+    let word = arguments.only("part")?;
+    let cut = cut(&arguments)?;
+    let table = arguments.read("--csv", &csv::names(), csv::named)?;
+    let picture = picture(&arguments, &cut)?;
+
+    let mut progress = Progress::new();
+    let part = Part::find(word, &mut progress)?;
+    let mut lent = Lent::new(cut.nodes);
+    let built = Built::new(&part, cut.bound, lent.tables(), &mut progress)?;
+    let reading = Reading::new(&built.tree(), cut.exponent, &mut progress)?;
+    drop(progress);
+
+    if let Some((path, slab)) = picture {
+        let drawn = svg::draw(&part, &cut, &reading, slab)?;
+        save_by(path, |out| out.write_all(drawn.as_bytes()))?;
+    }
+    match table {
+        Some(table) => print(&csv::write(table, &cut, &reading)?),
+        None => {
+            let picture = picture.map(|(path, slab)| Picture { name: shown(path.as_os_str()), slab });
+            print(&report::write(&part, &cut, &reading, &memory::tables(&built, &reading), picture))
+        }
+    }
+}
+
+fn cut(arguments: &Arguments) -> Result<Cut, Fault> {
+    let exponent = |word: &str| whole(word).filter(|slabs| slabs.is_power_of_two()).map(u32::trailing_zeros);
+    let described = format!("a power of two from 1 to {}", 1 << MOST_EXPONENT);
+    let exponent = arguments.read("--slabs", &described, |word| exponent(word).filter(|&e| e <= MOST_EXPONENT))?;
+    Ok(Cut {
+        bound: arguments.number("--bound", 0..=MOST_BOUND)?.unwrap_or(USUAL_BOUND),
+        exponent: exponent.unwrap_or(USUAL_EXPONENT),
+        nodes: arguments.number("--nodes", 1..=MOST_NODES)?.unwrap_or(MOST_NODES),
+    })
+}
+
+/// Where a picture goes to, and of which slab: the middle one, or the upper of the two.
+fn picture<'a>(arguments: &Arguments<'a>, cut: &Cut) -> Result<Option<(&'a Path, u32)>, Fault> {
+    let slabs = 1 << cut.exponent;
+    let slab = arguments.number("--slab", 0..=slabs - 1)?;
+    match (arguments.path("--svg")?, slab) {
+        (None, Some(_)) => Err(Fault::arguments("--slab chooses what --svg FILE shows, and that isn't given")),
+        (path, slab) => Ok(path.map(|path| (path, slab.unwrap_or(slabs / 2)))),
+    }
+}
+
+impl Cut {
+    pub fn slabs(&self) -> u32 {
+        1 << self.exponent
+    }
+
+    /// The height of a slab's low side; with a half, of its middle.
+    pub fn height(&self, slabs: f64) -> f64 {
+        slabs / f64::from(self.slabs())
+    }
+}

@@ -1,0 +1,187 @@
+//! `mittenhelm slice`: the report and the tables, against the model of document 01.
+
+use crate::fields::{BuiltIn, BUILT_INS};
+use crate::run::{numbers, printed, slice, table};
+use oracle_answers::model::reading::{slab, DualCell, Reading};
+use oracle_answers::model::{centre, half_size, level};
+use oracle_answers::trees::Tree;
+use std::fmt::Display;
+
+/// A part's tree as the model has it, and the dual cell of each vertex.
+struct Expected {
+    tree: Tree,
+    cells: Vec<(u64, u32, DualCell)>,
+}
+
+impl Expected {
+    fn new(part: &BuiltIn, bound: u32) -> Self {
+        let tree = Tree::by_rule(bound, &part.distance);
+        let reading = Reading::of(&tree.tables());
+        let vertices = reading.vertices().expect("a sound tree");
+        let cell = |(vertex, level)| (vertex, level, reading.dual_cell(vertex, level).expect("a listed vertex"));
+        Expected { tree, cells: vertices.into_iter().map(cell).collect() }
+    }
+
+    fn is_crossed(dual: &DualCell) -> bool {
+        let inside = |bits: &u32| f32::from_bits(*bits) < 0.0;
+        dual.distances.iter().any(inside) && !dual.distances.iter().all(inside)
+    }
+
+    /// For each slab, how many cells it has, and how many of them are crossed.
+    fn slabs(&self, exponent: u32) -> Vec<[usize; 2]> {
+        let mut slabs = vec![[0; 2]; 1 << exponent];
+        for (vertex, level, dual) in &self.cells {
+            let count = &mut slabs[slab(*vertex, *level, exponent).expect("an inner vertex") as usize];
+            *count = [count[0] + 1, count[1] + usize::from(Expected::is_crossed(dual))];
+        }
+        slabs
+    }
+
+    fn leaves_table(&self) -> String {
+        let mut text = "key,level,x,y,z,half,distance\n".to_string();
+        for node in self.tree.nodes.iter().filter(|node| self.tree.is_leaf(node.request.key)) {
+            let key = node.request.key;
+            let (centre, half) = (centre(key).expect("a cell"), half_size(key).expect("a cell"));
+            text += &format!("{key},{},{},{half},{}\n", level(key), joined(&centre), node.distance);
+        }
+        text
+    }
+
+    fn vertices_table(&self, exponent: u32) -> String {
+        let mut text = "vertex,level,x,y,z,slab\n".to_string();
+        for &(vertex, level, _) in &self.cells {
+            // It is the low corner of the cell whose key it is.
+            let (centre, half) = (centre(vertex).expect("a cell of level 21"), half_size(vertex).expect("the same"));
+            let slab = slab(vertex, level, exponent).expect("an inner vertex");
+            text += &format!("{vertex:#x},{level},{},{slab}\n", joined(&centre.map(|middle| middle - half)));
+        }
+        text
+    }
+
+    fn cells_table(&self, exponent: u32) -> String {
+        let eight = |name: &str| joined(&[0, 1, 2, 3, 4, 5, 6, 7].map(|i| format!("{name}{i}")));
+        let mut text = format!("vertex,level,slab,crossed,tried,{},{}\n", eight("key"), eight("distance"));
+        for (vertex, level, dual) in &self.cells {
+            let slab = slab(*vertex, *level, exponent).expect("an inner vertex");
+            let (crossed, distances) = (u8::from(Expected::is_crossed(dual)), dual.distances.map(f32::from_bits));
+            text += &format!("{vertex:#x},{level},{slab},{crossed},{},", dual.tried);
+            text += &format!("{},{}\n", joined(&dual.keys), joined(&distances));
+        }
+        text
+    }
+}
+
+fn joined(items: &[impl Display]) -> String {
+    items.iter().map(|item| item.to_string()).collect::<Vec<_>>().join(",")
+}
+
+/// The first number behind a name in a report.
+fn told(report: &str, name: &str) -> usize {
+    let line = report.lines().find(|line| line.split(' ').next() == Some(name)).unwrap_or_else(|| panic!("no {name}: {report}"));
+    let word = line[name.len()..].trim_start().split(|c: char| !c.is_ascii_digit()).next();
+    word.and_then(|word| word.parse().ok()).unwrap_or_else(|| panic!("no number: {line}"))
+}
+
+/// The lines of a report below the one that begins with a word, to an empty one.
+fn section<'a>(report: &'a str, title: &'a str) -> Vec<&'a str> {
+    report.lines().skip_while(|line| !line.starts_with(title)).skip(1).take_while(|line| !line.is_empty()).collect()
+}
+
+/// Everything that is printed of every part, bounds below 2 and a single slab too. All parts fit their usual bound.
+#[test]
+fn of_built_in_parts() {
+    for part in &BUILT_INS {
+        for (bound, exponent) in [(0, 1), (2, 0), (3, 5), (4, 4)] {
+            let expected = Expected::new(part, bound);
+            let (bound, slabs) = (bound.to_string(), (1 << exponent).to_string());
+            let options = ["--bound", &bound, "--slabs", &slabs];
+            let text = |name| printed(&slice(part.name, &[&options, &["--csv", name][..]].concat()));
+            assert_eq!(text("leaves"), expected.leaves_table());
+            assert_eq!(text("vertices"), expected.vertices_table(exponent));
+            assert_eq!(text("cells"), expected.cells_table(exponent));
+
+            let report = printed(&slice(part.name, &options));
+            let counts = ["nodes", "leaves", "vertices", "cells"].map(|name| told(&report, name));
+            let cells = expected.cells.len();
+            assert_eq!(counts, [expected.tree.nodes.len(), expected.tree.leaves.len(), cells, cells], "{report}");
+            check_slabs(&report, &table(part.name, &options, "slabs"), &expected.slabs(exponent));
+            check_memory(&report, 4096, &expected);
+        }
+    }
+}
+
+/// Both forms of the slabs' counts, which leave none out and name none twice.
+fn check_slabs(report: &str, table: &[Vec<String>], expected: &[[usize; 2]]) {
+    let share = |slab: usize| slab as f64 / expected.len() as f64;
+    assert_eq!(table.len(), expected.len());
+    for (slab, (row, [cells, crossed])) in table.iter().zip(expected).enumerate() {
+        assert_eq!(numbers(row, 0), [slab as f64, share(slab), share(slab + 1), *cells as f64, *crossed as f64]);
+    }
+
+    let mut next = 0;
+    let mut was_empty = false;
+    for line in section(report, "slab ") {
+        let words: Vec<&str> = line.split_whitespace().filter(|word| *word != "to" && !word.starts_with('#')).collect();
+        let words: Vec<f64> = words.iter().map(|word| word.parse().unwrap_or_else(|_| panic!("{line}"))).collect();
+        // One slab, or the first and the last of some empty ones.
+        let (slabs, rest) = words.split_at(words.len() - 4);
+        let (first, last) = (slabs[0] as usize, slabs[slabs.len() - 1] as usize);
+        assert_eq!(first, next, "{line}");
+        assert!((rest[0] - share(first)).abs() <= 5e-6 && (rest[1] - share(last + 1)).abs() <= 5e-6, "{line}");
+        assert!(expected[first..=last].iter().all(|count| count.map(|n| n as f64)[..] == rest[2..]), "{line}");
+        assert!(first == last || rest[2] == 0.0, "{line}");
+        assert_eq!(line.contains('#'), rest[2] > 0.0, "{line}");
+        assert!(!(was_empty && rest[2] == 0.0), "two lines for what one could say: {report}");
+        was_empty = rest[2] == 0.0;
+        next = last + 1;
+    }
+    assert_eq!(next, expected.len(), "{report}");
+}
+
+/// Each table's places and bytes, and their sum.
+fn check_memory(report: &str, nodes: usize, expected: &Expected) {
+    let (leaves, splits) = ((7 * nodes + 1) / 8, expected.tree.nodes.len() - expected.tree.leaves.len());
+    let [n, _, m, queue] = expected.tree.needs();
+    let cells = expected.cells.len();
+    let tables = [
+        ("node keys", nodes, n, 8),
+        ("node distances", nodes, n, 4),
+        ("leaf keys", leaves, m, 8),
+        ("queue", leaves, queue, 8),
+        ("state", 8, 8, 8),
+        ("vertices", 19 * splits, cells, 8),
+        ("levels", 19 * splits, cells, 1),
+    ];
+    let lines = section(report, "memory ");
+    assert_eq!(lines.len(), tables.len() + 1, "{report}");
+    let mut together = 0;
+    for (line, (name, places, needed, bytes)) in lines.iter().zip(tables) {
+        let words: Vec<&str> = line.strip_prefix(name).unwrap_or_else(|| panic!("{name}: {line}")).split_whitespace().collect();
+        assert_eq!(words, [places.to_string(), needed.to_string(), (bytes * places).to_string()], "{line}");
+        together += bytes * places;
+    }
+    let words: Vec<&str> = lines[tables.len()].split_whitespace().take(4).collect();
+    assert_eq!(words, ["together", &together.to_string(), "of", "262144"], "{report}");
+}
+
+/// Many slabs, most of them empty, are few lines; other room is told as it is.
+#[test]
+fn of_many_slabs_and_little_room() {
+    let part = &BUILT_INS[0];
+    let expected = Expected::new(part, 3);
+    for exponent in [9, 15] {
+        let slabs = (1 << exponent).to_string();
+        let options = ["--bound", "3", "--slabs", &slabs, "--nodes", "600"];
+        let report = printed(&slice(part.name, &options));
+        check_slabs(&report, &table(part.name, &options, "slabs"), &expected.slabs(exponent));
+        check_memory(&report, 600, &expected);
+        assert!(report.lines().count() < 40, "{report}");
+    }
+}
+
+/// What is usual is what the help says.
+#[test]
+fn without_options() {
+    let options = ["--bound", "4", "--slabs", "16", "--nodes", "4096"];
+    assert_eq!(printed(&["slice", "lattice"]), printed(&slice("lattice", &options)));
+}
