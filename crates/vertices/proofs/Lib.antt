@@ -1,8 +1,12 @@
 -- The laws behind `list`, in the order in which they build on each other.
 pub mod Offsets
-pub mod Step
+pub mod Entries
+pub mod Marks
+pub mod Blocks
+pub mod Glance
+pub mod Root
+pub mod Sound
 pub mod Spot
 pub mod Range
-pub mod Marks
-pub mod Ways
+pub mod Law
 pub mod One

@@ -1,28 +1,26 @@
 -- Masks bit by bit, and the masks of a node's split children. Assumes nothing.
-use Prim.Native.Nat.{ℕ, zero, suc, _+_, _*_, _-_, _/_, _%_, _^_, _≤_, _<_}
-use mathlib.Core.Path.{_≡_, refl, sym, _∙_, ap, subst}
-use mathlib.Core.Bool.{Bool, true, false, true≢false}
-use mathlib.Core.Logic.{⊎-elim}
+use Prim.Native.Nat.{ℕ, zero, suc, _+_, _*_, _-_, _/_, _%_, _^_, _≤_, _<_, min}
+use mathlib.Core.Path.{_≡_, refl, sym, _∙_, ap, ap₂, subst}
+use mathlib.Core.Bool.{Bool, true, false, _&&_, true≢false}
 use mathlib.Core.List.{List}
-use native.Mathlib.Nat.{add-mul-div-right, mul-assoc, mul-le-mul-right, zero-div, div-eq-of-lt, add-mul, add-zero, one-mul, pow-suc}
+use native.Mathlib.Nat.{add-mul-div-right, mul-assoc, mul-le-mul-right, zero-div, div-eq-of-lt, add-mul, one-mul, pow-suc}
 use native.Mathlib.Decide.{decLt, ℕ-discrete}
 use native.Mathlib.Numerals.{add-one}
 use native.Mathlib.Omega.{arith}
-use lib.Dec.{eqb}
+use lib.Bits.{bitAnd, and-le-l}
+use lib.Dec.{eqb, ltb}
 use lib.ListN.{length, getD}
 use lib.Pow.{pow-add, pow-lt, pow-pos, pow-mono, high, shr-shr, shl-exact}
-use borrow.Author.Tests.{eq-eqb, ne-eqb}
-use Rattle.morton.specs.Level.{limit, level}
+use borrow.Author.Tests.{ltb-true, lt-ltb, eqb-true, eq-eqb, ne-eqb}
 use Rattle.morton.specs.Field.{bit}
-use Rattle.morton.proofs.Levels.{cell-lt}
-use Rattle.morton.proofs.Fields.{div-step, mul-step}
-use Rattle.tree.specs.Tree.{In, StandsAt, Ascending, Decides}
-use Rattle.tree.specs.Climb.{firstFrom}
-use Rattle.tree.proofs.Halving.{FirstFrom, first-from, order}
-use Rattle.tree.proofs.Lists.{in-at, in-cast, stands-in}
-use Rattle.vertices.specs.Block.{marked, ChildMarks, BelowMarks, loweredMark, LoweredMarks}
-use Rattle.vertices.specs.Walk.{SoundKeys}
-use Rattle.vertices.proofs.Step.{split-children}
+use Rattle.morton.specs.Level.{if₀}
+use Rattle.morton.proofs.Fields.{bit-le, div-step, mul-step}
+use Rattle.morton.proofs.Levels.{and-true}
+use Rattle.tree.specs.Tree.{StandsAt, Decides}
+use Rattle.tree.specs.Climb.{firstFrom, standsAt}
+use Rattle.vertices.specs.Walk.{childrenAt, childSplit}
+use Rattle.vertices.specs.Block.{marked, ChildMarks, BelowMarks, Gaps, loweredMark, LoweredMarks}
+use Rattle.vertices.proofs.Offsets.{and-bit}
 
 -- ---- one bit
 
@@ -139,114 +137,72 @@ filled-lowered mask below q n r e f =
     let g : Filled (λ o. loweredMark mask below q o ≡ true) 8 r = subst (λ (m : ℕ). Filled (λ o. loweredMark mask below q o ≡ true) m r) e f in
     record { small = g .small; marks = λ o h. decides-is (marked r o) (loweredMark mask below q o) (g .marks o h) }
 
--- ---- the first place with a key from x on
-
-module _ (ks : List ℕ) (up : Ascending ks) where
-  pub first-stands : (x p : ℕ) → FirstFrom ks x p → In x ks → StandsAt ks p x
-  first-stands x p f m =
-      ⊎-elim (λ l. absurd (omega (arith, f .before (m .place) l, m .here)))
-      (λ g. ⊎-elim (λ l. absurd (omega (arith, up p (m .place) l (m .inside), f .after p (omega arith) (omega (arith, m .inside)), m .here)))
-      (λ l. let e : p ≡ m .place = omega arith in rw e (record { inside = m .inside; here = m .here })) (order p (m .place)))
-      (order (m .place) p)
-
-  first-next : (x p : ℕ) → FirstFrom ks x p → In x ks → FirstFrom ks (x + 1) (p + 1)
-  first-next x p f m =
-      let s : StandsAt ks p x = first-stands x p f m in
-      record {
-        inside = omega (arith, s .inside);
-        before = λ i h.
-            elim (decLt i p) [
-              | yes l ↦ omega (arith, f .before i l)
-              | no l ↦ let e : i ≡ p = omega arith in omega (arith, ap (λ (n : ℕ). getD ks n 0) e, s .here)
-            ];
-        after = λ i h l. omega (arith, up p i (omega arith) l, s .here);
-      }
-
-  -- keys in a row
-  first-run : (n x p : ℕ) → ((i : ℕ) → i < n → In (x + i) ks) → FirstFrom ks x p → FirstFrom ks (x + n) (p + n)
-  first-run zero x p m f = rw (add-zero x, add-zero p) f
-  first-run (suc n) x p m f =
-      let g : FirstFrom ks (x + n + 1) (p + n + 1) = first-next (x + n) (p + n) (first-run n x p (λ i h. m i (omega arith)) f) (m n (omega arith)) in
-      let a : x + n + 1 ≡ x + suc n = omega arith in
-      let b : p + n + 1 ≡ p + suc n = omega arith in
-      rw (a, b) at g
-
--- none of them
-first-skip : (ks : List ℕ) (n x p : ℕ) → ((i : ℕ) → i < n → In (x + i) ks → ⊥) → FirstFrom ks x p → FirstFrom ks (x + n) p
-first-skip ks n x p none f =
-    record {
-      inside = f .inside;
-      before = λ i h. omega (arith, f .before i h);
-      after = λ i h l.
-          ⊎-elim
-          (λ lt. absurd (none (getD ks i 0 - x) (omega (arith, f .after i h l)) (in-cast (omega (arith, f .after i h l)) (in-at ks i l))))
-          (λ ge. ge) (order (getD ks i 0) (x + n));
-    }
-
 -- ---- the split children of a node
 
--- so far w children of p are told, and the search stands where the next one's children would
-pub record Told (ks : List ℕ) (p w at mask : ℕ) : Type 0 where
-  pub first : FirstFrom ks (64 * p + 8 * w) at
-  pub filled : Filled (λ i. In (8 * (8 * p + i)) ks) w mask
+module _ (ks : List ℕ) (at x : ℕ) where
+  pub stands-yes : StandsAt ks at x → standsAt ks (length ks) at x ≡ true
+  unfolding standsAt
+  stands-yes s = ap₂ _&&_ (lt-ltb at (length ks) (s .inside)) (eq-eqb (getD ks at 0) x (s .here))
 
-module _ (ks : List ℕ) (t : SoundKeys ks) (p : ℕ) (split : In (8 * p) ks) where
+  pub yes-stands : standsAt ks (length ks) at x ≡ true → StandsAt ks at x
+  unfolding standsAt
+  yes-stands e =
+      let b = and-true (ltb at (length ks)) (eqb (getD ks at 0) x) e in
+      record { inside = ltb-true at (length ks) (b .0); here = eqb-true (getD ks at 0) x (b .1) }
+
+  pub stands-no : (StandsAt ks at x → ⊥) → standsAt ks (length ks) at x ≡ false
+  stands-no n = go (standsAt ks (length ks) at x) refl
+    where
+      go : (r : Bool) → standsAt ks (length ks) at x ≡ r → standsAt ks (length ks) at x ≡ false
+      go true e = absurd (n (yes-stands e))
+      go false e = e
+
+-- so far w children of p are told, and the next one's children would stand at the place
+pub record Told (ks : List ℕ) (p w at mask : ℕ) : Type 0 where
+  pub place : at ≡ childrenAt ks p w
+  pub filled : Filled (λ i. childSplit ks p i ≡ true) w mask
+
+module _ (ks : List ℕ) (p : ℕ) where
   pub told-none : (at : ℕ) → at ≡ firstFrom ks (length ks) (64 * p) → Told ks p 0 at 0
-  told-none at e =
-      record {
-        first = let z : 64 * p + 8 * 0 ≡ 64 * p = omega arith in rw (z, e) (first-from ks (t .sound .ascending) (64 * p));
-        filled = filled-none (λ i. In (8 * (8 * p + i)) ks);
-      }
+  unfolding childrenAt
+  told-none at e = record { place = e; filled = filled-none (λ i. childSplit ks p i ≡ true) }
 
   module _ (w at mask : ℕ) (h : w < 8) (s : Told ks p w at mask) where
-    next : 64 * p + 8 * w + 8 ≡ 64 * p + 8 * (w + 1)
-    next = omega arith
+    split-is : (r : Bool) → standsAt ks (length ks) at (64 * p + 8 * w) ≡ r → childSplit ks p w ≡ r
+    unfolding childSplit
+    split-is r e = ap₂ (standsAt ks (length ks)) (sym (s .place)) (omega arith) ∙ e
 
-    child : (i : ℕ) → 8 * (8 * p + w) + i ≡ 64 * p + 8 * w + i
-    child i = omega arith
+    next : (r : Bool) → childSplit ks p w ≡ r → childrenAt ks p (w + 1) ≡ at + if₀ r 8 0
+    unfolding childrenAt childSplit
+    next r e = ap (childrenAt ks p) (add-one w) ∙ ap₂ (λ (n : ℕ) (t : Bool). n + if₀ t 8 0) (sym (s .place)) e
 
     pub told-yes : StandsAt ks at (64 * p + 8 * w) → Told ks p (w + 1) (at + 8) (mask + (1 * 2 ^ w) % 2 ^ 64)
     told-yes st =
-        let m : In (8 * (8 * p + w)) ks = in-cast (omega arith) (stands-in st) in
-        record {
-          first =
-              subst (λ (n : ℕ). FirstFrom ks n (at + 8)) next
-              (first-run ks (t .sound .ascending) 8 (64 * p + 8 * w) at (λ i l. in-cast (omega (arith, child i)) (split-children ks t (8 * p + w) m i l)) (s .first));
-          filled = filled-yes (λ i. In (8 * (8 * p + i)) ks) w mask (omega arith) m (s .filled);
-        }
+        let e : childSplit ks p w ≡ true = split-is true (stands-yes ks at (64 * p + 8 * w) st) in
+        record { place = sym (next true e); filled = filled-yes (λ i. childSplit ks p i ≡ true) w mask (omega arith) e (s .filled) }
 
     pub told-no : (StandsAt ks at (64 * p + 8 * w) → ⊥) → Told ks p (w + 1) at mask
     told-no st =
-        let n : In (8 * (8 * p + w)) ks → ⊥ = λ m. st (first-stands ks (t .sound .ascending) (64 * p + 8 * w) at (s .first) (in-cast (omega arith) m)) in
+        let e : childSplit ks p w ≡ false = split-is false (stands-no ks at (64 * p + 8 * w) st) in
         record {
-          first =
-              subst (λ (n : ℕ). FirstFrom ks n at) next
-              (first-skip ks 8 (64 * p + 8 * w) at
-              (λ i l m.
-              ⊎-elim (λ a. n (in-cast (omega arith) (a 0 (omega arith)))) (λ f. f i l (in-cast (child i) m))
-              (t .sound .children (8 * p + w) (split-children ks t p split w h)))
-              (s .first));
-          filled = filled-no (λ i. In (8 * (8 * p + i)) ks) w mask n (s .filled);
+          place = omega (arith, next false e);
+          filled = filled-no (λ i. childSplit ks p i ≡ true) w mask (λ t. true≢false (sym t ∙ e)) (s .filled);
         }
 
     pub told-fits : mask + (1 * 2 ^ w) % 2 ^ 64 < 2 ^ 64
-    told-fits = filled-fits (λ i. In (8 * (8 * p + i)) ks) w mask (omega arith) (s .filled)
-
-  -- the keys that are looked for
-  pub node-lt : 64 * p + 64 < 2 ^ 64
-  node-lt = omega (arith, cell-lt (level (8 * p)) limit (8 * p) (t .sound .cells (8 * p) split .0) (t .sound .cells (8 * p) split .1))
+    told-fits = filled-fits (λ i. childSplit ks p i ≡ true) w mask (omega arith) (s .filled)
 
   pub told-all : (w at mask : ℕ) → w ≡ 8 → Told ks p w at mask → ChildMarks ks p mask
   told-all w at mask e s =
-      let f : Filled (λ i. In (8 * (8 * p + i)) ks) 8 mask = subst (λ (n : ℕ). Filled (λ i. In (8 * (8 * p + i)) ks) n mask) e (s .filled) in
-      record { small = f .small; marks = f .marks }
+      let f : Filled (λ i. childSplit ks p i ≡ true) 8 mask = subst (λ (n : ℕ). Filled (λ i. childSplit ks p i ≡ true) n mask) e (s .filled) in
+      record { small = f .small; marks = λ i h. decides-is (marked mask i) (childSplit ks p i) (f .marks i h) }
 
 -- ---- the same for each split entry of a block
 
 module _ (ks b : List ℕ) (mask : ℕ) where
   pub record Stacked (n below : ℕ) : Type 0 where
     pub small : below < 2 ^ (8 * n)
-    pub marks : (o : ℕ) → o < n → marked mask o ≡ true → (w : ℕ) → w < 8 → Decides (marked below (8 * o + w)) (In (8 * (8 * getD b o 0 + w)) ks)
+    pub marks : (o : ℕ) → o < n → marked mask o ≡ true → (w : ℕ) → w < 8 → marked below (8 * o + w) ≡ childSplit ks (getD b o 0) w
 
   pub stacked-none : Stacked 0 0
   stacked-none = record { small = omega arith; marks = λ o h. absurd (omega arith) }
@@ -262,11 +218,11 @@ module _ (ks b : List ℕ) (mask : ℕ) where
           small = subst (λ (j : ℕ). below + x * 2 ^ (8 * n) < 2 ^ j) wider (put-lt below x (8 * n) (s .small) 8 (c .small));
           marks = λ o h e w l.
               elim (decLt o n) [
-                | yes g ↦ rw (marked-under below x (8 * n) (s .small) (8 * o + w) (omega arith)) (s .marks o g e w l)
+                | yes g ↦ marked-under below x (8 * n) (s .small) (8 * o + w) (omega arith) ∙ s .marks o g e w l
                 | no g ↦
                     let q : n ≡ o = omega arith in
-                    subst (λ (j : ℕ). Decides (marked (below + x * 2 ^ (8 * n)) (8 * j + w)) (In (8 * (8 * getD b j 0 + w)) ks)) q
-                    (rw (marked-over below x (8 * n) (s .small) w) (c .marks w l))
+                    subst (λ (j : ℕ). marked (below + x * 2 ^ (8 * n)) (8 * j + w) ≡ childSplit ks (getD b j 0) w) q
+                    (marked-over below x (8 * n) (s .small) w ∙ c .marks w l)
               ];
         })
 
@@ -292,3 +248,42 @@ module _ (ks b : List ℕ) (mask : ℕ) where
 
   pub stacked-all : (n below : ℕ) → n ≡ 8 → Stacked n below → BelowMarks ks b mask below
   stacked-all n below e s o h = s .marks o (omega arith)
+
+-- ---- entries that are no node
+
+pub gaps-all : (b : List ℕ) (n gaps : ℕ) → n ≡ 8 → Filled (λ o. getD b o 0 ≡ 0) n gaps → Gaps b gaps
+gaps-all b n gaps e f =
+    let g : Filled (λ o. getD b o 0 ≡ 0) 8 gaps = subst (λ (m : ℕ). Filled (λ o. getD b o 0 ≡ 0) m gaps) e f in
+    record { small = g .small; marks = λ o h. zero-is (marked gaps o) (getD b o 0) (g .marks o h) }
+  where
+    zero-is : (r : Bool) (x : ℕ) → Decides r (x ≡ 0) → r ≡ eqb x 0
+    zero-is true x d = sym (eq-eqb x 0 d)
+    zero-is false x d = sym (ne-eqb x 0 d)
+
+-- ---- masks in common
+
+pub marked-and : (m n i : ℕ) → marked (bitAnd m n) i ≡ (marked m i && marked n i)
+unfolding marked
+marked-and m n i = go (bit i m) (bit i n) (bit i (bitAnd m n)) (bit-le i m) (bit-le i n) (and-bit i m n)
+  where
+    go : (x y z : ℕ) → x ≤ 1 → y ≤ 1 → z ≡ min x y → eqb z 1 ≡ (eqb x 1 && eqb y 1)
+    go zero y z h l e = ne-eqb z 1 (λ t. omega arith)
+    go (suc zero) zero z h l e = ne-eqb z 1 (λ t. omega arith)
+    go (suc zero) (suc zero) z h l e = eq-eqb z 1 (omega arith)
+    go (suc zero) (suc (suc y)) z h l e = absurd (omega arith)
+    go (suc (suc x)) y z h l e = absurd (omega arith)
+
+-- nothing in common with a mask that has the bit
+pub apart : (m n i : ℕ) → bitAnd m n ≡ 0 → marked n i ≡ true → marked m i ≡ false
+apart m n i z e = go (marked m i) refl
+  where
+    go : (r : Bool) → marked m i ≡ r → marked m i ≡ false
+    go true t = absurd (true≢false (sym (marked-and m n i ∙ ap₂ _&&_ t e) ∙ ap (λ (x : ℕ). marked x i) z ∙ marked-zero i))
+    go false t = t
+
+-- something in common
+pub shared : (k m n : ℕ) → m < 2 ^ k → (bitAnd m n ≡ 0 → ⊥) → (i : ℕ) × (i < k) × (marked m i ≡ true) × (marked n i ≡ true)
+shared k m n h z =
+    let s = some-marked k (bitAnd m n) (omega (arith, and-le-l m n)) z in
+    let b = and-true (marked m (s .0)) (marked n (s .0)) (sym (marked-and m n (s .0)) ∙ s .2) in
+    (s .0, s .1, b .0, b .1)

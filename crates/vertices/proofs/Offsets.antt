@@ -1,19 +1,21 @@
 -- The cells one lower on the axes, from those of the parent. Assumes nothing.
 use Prim.Native.Nat.{ℕ, zero, suc, _+_, _*_, _-_, _/_, _%_, _^_, _≤_, _<_, min}
-use mathlib.Core.Path.{_≡_, _∙_, ap}
+use mathlib.Core.Path.{_≡_, refl, sym, _∙_, ap, ap₂}
+use mathlib.Core.Bool.{Bool, true, false, _&&_, true≢false}
 use native.Mathlib.Omega.{arith}
-use native.Mathlib.Decide.{decLe}
+use borrow.Author.Tests.{leb-true, le-leb}
 use lib.Bits.{bitAnd, bitXor, differ, and-le-l, and-shr, and-step, xor-lt, xor-shr, xor-step}
 use Rattle.morton.specs.Level.{Cell}
 use Rattle.morton.specs.Field.{bit, coord}
 use Rattle.morton.proofs.Dilated.{axes}
+use Rattle.morton.proofs.Levels.{and-true}
 use Rattle.morton.proofs.Fields.{bit-le, coord-child, key-cell, key-ext}
 use Rattle.geometry.proofs.Place.{key-suc}
-use Rattle.vertices.specs.Block.{near, Within}
+use Rattle.vertices.specs.Walk.{near, inCube}
 
 -- ---- bits of offsets
 
-and-bit : (a x y : ℕ) → bit a (bitAnd x y) ≡ min (bit a x) (bit a y)
+pub and-bit : (a x y : ℕ) → bit a (bitAnd x y) ≡ min (bit a x) (bit a y)
 and-bit a x y = ap (λ (n : ℕ). n % 2) (and-shr x y a) ∙ omega (arith, and-step (x / 2 ^ a) (y / 2 ^ a))
 
 differ-bits : (x y : ℕ) → x ≤ 1 → y ≤ 1 → differ x y ≡ (x + y) % 2
@@ -53,21 +55,35 @@ pub near-cell : (l c o : ℕ) → Cell l (near l c o)
 unfolding near
 near-cell l c o = key-cell l (λ a. coord l c a - bit a o)
 
+-- the cell that lies o lower lies in the cube
+unfoldable pub Within : ℕ → ℕ → ℕ → Type 0
+Within l c o = (a : ℕ) → a < 3 → bit a o ≤ coord l c a
+
+pub in-cube : (l c o : ℕ) → inCube l c o ≡ true → Within l c o
+unfolding inCube Within
+in-cube l c o e =
+    let x = and-true _ _ e in
+    let y = and-true _ _ (x .1) in
+    axes (λ a. bit a o ≤ coord l c a) (leb-true _ _ (x .0)) (leb-true _ _ (y .0)) (leb-true _ _ (y .1))
+
+pub cube-in : (l c o : ℕ) → Within l c o → inCube l c o ≡ true
+unfolding inCube Within
+cube-in l c o w =
+    ap₂ _&&_ (le-leb _ _ (w 0 (omega arith))) (ap₂ _&&_ (le-leb _ _ (w 1 (omega arith))) (le-leb _ _ (w 2 (omega arith))))
+
+pub cube-out : (l c o : ℕ) → (Within l c o → ⊥) → inCube l c o ≡ false
+cube-out l c o n = go (inCube l c o) refl
+  where
+    go : (r : Bool) → inCube l c o ≡ r → inCube l c o ≡ false
+    go true e = absurd (n (in-cube l c o e))
+    go false e = e
+
 pub within-or-not : (l c o : ℕ) → Dec (Within l c o)
-unfolding Within
-within-or-not l c o =
-    elim (decLe (bit 0 o) (coord l c 0)) [
-      | no n ↦ no (λ w. n (w 0 (omega arith)))
-      | yes x ↦
-          elim (decLe (bit 1 o) (coord l c 1)) [
-            | no n ↦ no (λ w. n (w 1 (omega arith)))
-            | yes y ↦
-                elim (decLe (bit 2 o) (coord l c 2)) [
-                  | no n ↦ no (λ w. n (w 2 (omega arith)))
-                  | yes z ↦ yes (axes (λ a. bit a o ≤ coord l c a) x y z)
-                ]
-          ]
-    ]
+within-or-not l c o = go (inCube l c o) refl
+  where
+    go : (r : Bool) → inCube l c o ≡ r → Dec (Within l c o)
+    go true e = yes (in-cube l c o e)
+    go false e = no (λ w. true≢false (sym (cube-in l c o w) ∙ e))
 
 -- entry o of child q lies in entry o and not q of its parent, as the child q xor o
 module _ (l c q o : ℕ) (hq : q < 8) (ho : o < 8) where

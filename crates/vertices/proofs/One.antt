@@ -1,14 +1,18 @@
--- One answer only: two answers of `list` that meet its promise are the same, and so are the tables. Assumes nothing.
+-- One answer only: two answers of a call that meet its promise are the same, and so are the tables. Of a sound tree both calls have the same. Assumes
+-- nothing.
 use Prim.Native.Nat.{ℕ}
+use mathlib.Core.List.{List}
 use mathlib.Core.Path.{_≡_, sym, ap, ap₂, subst, _∙_}
 use mathlib.Core.Logic.{⊎-elim}
 use lib.ListN.{length}
 use Rattle.morton.proofs.One.{OnlyOne}
-use Rattle.tree.specs.Tree.{Tree}
+use Rattle.tree.specs.Tree.{Tree, Sound}
 use Rattle.geometry.proofs.Listing.{listed-unique}
 use Rattle.vertices.specs.declared.ListAnswer.{ListAnswer}
 use Rattle.vertices.specs.declared.ListAnswer.the-variants as list
-use Rattle.vertices.specs.Listing.{Lists, written, Room, Wrote, Short, ListSays}
+use Rattle.vertices.specs.Walk.{spotsOf}
+use Rattle.vertices.specs.Listing.{Lists, written, Room, Wrote, Short, ListSays, TrustingSays}
+use Rattle.vertices.proofs.Law.{trusting-list}
 
 module _ (t : Tree) (start : ℕ) (was : Lists) where
   wrote-count : {n m : ℕ} {left right : Lists} → Wrote (t .leaves) start n was left → Wrote (t .leaves) start m was right → n ≡ m
@@ -42,3 +46,15 @@ module _ (t : Tree) (start : ℕ) (was : Lists) where
       (λ x. ⊎-elim (λ y. x .1 ∙ sym (y .1)) (λ y. absurd (x .0 (y .0))) (b .1))
       (λ x. ⊎-elim (λ y. absurd (y .0 (x .0))) (λ y. x .2 ∙ sym (y .2)) (b .1))
       (a .1)))
+
+  -- of a sound tree the list of one who trusts is the same
+  pub list-same : Sound t → (o p : Lists × ListAnswer) → TrustingSays (t .keys) start was (o .0) (o .1) → ListSays t start was (p .0) (p .1) → o ≡ p
+  list-same s o p a b = list-one o p (trusting-list t s start was (o .0) (o .1) a) b
+
+pub list-trusting-one : (ks : List ℕ) (start : ℕ) (was : Lists) → OnlyOne (λ (o : Lists × ListAnswer). TrustingSays ks start was (o .0) (o .1))
+list-trusting-one ks start was (left, list.Count n) (right, list.Count m) a b =
+    ap₂ (λ (x : Lists) (y : ListAnswer). (x, y)) (a .2 ∙ sym (b .2)) (ap list.Count (a .0 ∙ sym (b .0)))
+list-trusting-one ks start was (left, list.Count n) (right, list.Refused k) a b = absurd (b .1 (subst (λ (i : ℕ). Room start i was) (a .0) (a .1)))
+list-trusting-one ks start was (left, list.Refused k) (right, list.Count n) a b = absurd (a .1 (subst (λ (i : ℕ). Room start i was) (b .0) (b .1)))
+list-trusting-one ks start was (left, list.Refused k) (right, list.Refused j) a b =
+    ap₂ (λ (x : Lists) (y : ListAnswer). (x, y)) (a .0 ∙ sym (b .0)) (ap list.Refused (a .2 ∙ sym (b .2)))

@@ -11,13 +11,22 @@ use lib.ListN.{length, getD, length-append, List·getD-append}
 use lib.Seq.{getD-append-add}
 use Rattle.morton.specs.Level.{deepest, limit, Cell, level}
 use Rattle.morton.proofs.Levels.{eight-pos}
-use Rattle.tree.specs.Tree.{In, Sound, treeOf}
+use Rattle.tree.specs.Tree.{In, Ascending, Sound, treeOf}
 use Rattle.geometry.specs.Listing.{given, GivenAt, Listed}
 use Rattle.tree.proofs.Lists.{in-at, in-head, in-none, in-one, in-left, in-right, in-append, ascending-asc, asc-at, asc-append, asc-length}
 use Rattle.geometry.proofs.Vertex.{vertex-cell}
-use Rattle.vertices.specs.Block.{marked, Block}
-use Rattle.vertices.specs.Walk.{SoundKeys, Leaf, lowCorner, Meets, GivenBy, Ranged}
-use Rattle.vertices.proofs.Spot.{corner-next, corner-pos, Caught, caught, giver}
+use Rattle.vertices.specs.Walk.{splitAt, entry, lowCorner}
+use Rattle.vertices.proofs.Sound.{SoundKeys, Block}
+use Rattle.vertices.proofs.Spot.{Leaf, Meets, GivenBy, corner-next, corner-pos, Caught, caught, giver}
+
+-- the listed vertices from lo up to hi, with their levels
+pub record Ranged (ks : List ℕ) (lo hi : ℕ) (vs ls : List ℕ) : Type 0 where
+  pub ascending : Ascending vs
+  pub between : (x : ℕ) → In x vs → (lo ≤ x) × (x < hi)
+  pub paired : length ls ≡ length vs
+  pub whole : (k w : ℕ) → Leaf ks k → w < 8 → lo ≤ given k w → given k w < hi → In (given k w) vs
+  pub from : (i : ℕ) → i < length vs → GivenBy ks (getD vs i 0) (getD ls i 0)
+  pub greatest : (i k w : ℕ) → i < length vs → Leaf ks k → w < 8 → given k w ≡ getD vs i 0 → level k ≤ getD ls i 0
 
 -- ---- two ranges in a row
 
@@ -87,19 +96,19 @@ ranged-empty ks lo = ranged-none ks lo lo (λ k w leaf hw l u. omega arith)
 
 -- ---- a cell where no entry is split
 
-module _ (ks : List ℕ) (t : SoundKeys ks) (l c : ℕ) (hl : l ≤ limit) (cc : Cell l c) (b : List ℕ) (mask : ℕ) (blk : Block ks l c b mask)
-    (still : (o : ℕ) → o < 8 → marked mask o ≡ false) where
+module _ (ks : List ℕ) (t : SoundKeys ks) (l c : ℕ) (hl : l ≤ limit) (cc : Cell l c) (blk : Block ks l c)
+    (still : (o : ℕ) → o < 8 → splitAt ks l (entry ks l c o) ≡ false) where
   corner-some : 1 ≤ lowCorner l c
   corner-some = corner-pos l c (omega (arith, cc .low, eight-pos l))
 
   found : (k w : ℕ) (leaf : Leaf ks k) (hw : w < 8) (lo : lowCorner l c ≤ given k w) (hi : given k w < lowCorner l (c + 1))
-      → Caught ks t k w leaf hw (omega (arith, corner-some)) l c hl b mask blk still lo hi
-  found k w leaf hw lo hi = caught ks t k w leaf hw (omega (arith, corner-some)) l c hl b mask blk still lo hi
+      → Caught ks t k w leaf hw (omega (arith, corner-some)) l c hl blk still lo hi
+  found k w leaf hw lo hi = caught ks t k w leaf hw (omega (arith, corner-some)) l c hl blk still lo hi
 
-  pub none-here : (Meets l b → ⊥) → Ranged ks (lowCorner l c) (lowCorner l (c + 1)) [] []
+  pub none-here : (Meets ks l c → ⊥) → Ranged ks (lowCorner l c) (lowCorner l (c + 1)) [] []
   none-here n = ranged-none ks _ _ (λ k w leaf hw lo hi. n (found k w leaf hw lo hi .meets))
 
-  pub one-here : Meets l b → Ranged ks (lowCorner l c) (lowCorner l (c + 1)) (lowCorner l c ∷ []) (l ∷ [])
+  pub one-here : Meets ks l c → Ranged ks (lowCorner l c) (lowCorner l (c + 1)) (lowCorner l c ∷ []) (l ∷ [])
   one-here m =
       record {
         ascending = λ i j h g. absurd (omega arith);
@@ -111,7 +120,7 @@ module _ (ks : List ℕ) (t : SoundKeys ks) (l c : ℕ) (hl : l ≤ limit) (cc :
       }
     where
       first : (i : ℕ) → i ≡ 0 → GivenBy ks (getD (lowCorner l c ∷ []) i 0) (getD (l ∷ []) i 0)
-      first i e = rw e (giver ks t l c hl cc b mask blk still m)
+      first i e = rw e (giver ks t l c hl cc blk still m)
 
       most : (i k w : ℕ) → i ≡ 0 → Leaf ks k → w < 8 → given k w ≡ getD (lowCorner l c ∷ []) i 0 → level k ≤ getD (l ∷ []) i 0
       most zero k w e leaf hw g = found k w leaf hw (omega arith) (omega (arith, corner-next l c, eight-pos (deepest - l))) .level-le

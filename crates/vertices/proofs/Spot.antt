@@ -7,7 +7,6 @@ use mathlib.Core.List.{List}
 use native.Mathlib.Nat.{pow-suc, add-div-right, div-eq-of-lt-le, mul-assoc, mul-div-cancel, mul-pos, add-mul, one-mul}
 use native.Mathlib.Decide.{decLe}
 use native.Mathlib.Omega.{arith}
-use lib.ListN.{getD}
 use lib.Pow.{pow-add, pow-pos, shr-mono}
 use Rattle.morton.specs.Level.{deepest, limit, Cell, level}
 use Rattle.morton.specs.Field.{bit, coord, key}
@@ -24,10 +23,36 @@ use Rattle.tree.proofs.Lists.{in-cast}
 use Rattle.geometry.proofs.Place.{digit, bit-digit, up-up}
 use Rattle.geometry.proofs.Shape.{sound-shape, cell-pos}
 use Rattle.geometry.proofs.Lookup.{no-node}
-use Rattle.vertices.specs.Block.{near, Within, Over, marked, Block}
-use Rattle.vertices.specs.Walk.{SoundKeys, Leaf, lowCorner, Full, Fine, Meets, GivenBy}
-use Rattle.vertices.proofs.Offsets.{near-cell, within-or-not}
-use Rattle.vertices.proofs.Step.{over-same, over-childless}
+use Rattle.vertices.specs.Walk.{near, splitAt, entry, lowCorner}
+use Rattle.vertices.proofs.Offsets.{Within, near-cell, within-or-not}
+use Rattle.vertices.proofs.Sound.{SoundKeys, Over, Block, same-level, over-childless}
+
+-- ---- words
+
+-- a key without children
+pub record Leaf (ks : List ℕ) (k : ℕ) : Type 0 where
+  pub present : In k ks
+  pub childless : NoChild k ks
+
+-- all eight entries are nodes; one of them has level l or more; both
+abbrev pub Full : List ℕ → ℕ → ℕ → Type 0
+Full ks l c = (o : ℕ) → o < 8 → 0 < entry ks l c o
+
+abbrev pub Fine : List ℕ → ℕ → ℕ → Type 0
+Fine ks l c = (o : ℕ) × (o < 8) × (8 ^ l ≤ entry ks l c o)
+
+pub record Meets (ks : List ℕ) (l c : ℕ) : Type 0 where
+  pub full : Full ks l c
+  pub fine : Fine ks l c
+
+-- a leaf of level L gives the vertex v
+pub record GivenBy (ks : List ℕ) (v L : ℕ) : Type 0 where
+  pub leaf : ℕ
+  pub corner : ℕ
+  pub is-leaf : Leaf ks leaf
+  pub is-corner : corner < 8
+  pub gives : given leaf corner ≡ v
+  pub at-level : level leaf ≡ L
 
 -- ---- cells and their low corners
 
@@ -106,13 +131,13 @@ module _ (ks : List ℕ) (t : SoundKeys ks) where
     unfolding at-corner lowCorner
     given-is = vertex-is (level k) k w some
 
-    module _ (l c : ℕ) (hl : l ≤ limit) (b : List ℕ) (mask : ℕ) (blk : Block ks l c b mask) (still : (o : ℕ) → o < 8 → marked mask o ≡ false)
+    module _ (l c : ℕ) (hl : l ≤ limit) (blk : Block ks l c) (still : (o : ℕ) → o < 8 → splitAt ks l (entry ks l c o) ≡ false)
         (lo : lowCorner l c ≤ given k w) (hi : given k w < lowCorner l (c + 1)) where
       mine : given k w / 8 ^ (deepest - l) ≡ c
       mine = cell-of l c (given k w) lo hi
 
-      still-childless : (o : ℕ) → o < 8 → Within l c o → NoChild (getD b o 0) ks
-      still-childless o h i = over-childless ks t l (near l c o) (getD b o 0) (near-cell l c o) (blk .over o h i) (denied (marked mask o) _ (still o h) (blk .marks o h))
+      still-childless : (o : ℕ) → o < 8 → Within l c o → NoChild (entry ks l c o) ks
+      still-childless o h i = over-childless ks t l (near l c o) (entry ks l c o) (near-cell l c o) (blk .over o h i) (denied (splitAt ks l (entry ks l c o)) _ (still o h) (blk .marks o h))
 
       -- a finer leaf would lie in an entry
       module _ (j : ℕ) (fine : level k ≡ l + suc j) where
@@ -167,8 +192,8 @@ module _ (ks : List ℕ) (t : SoundKeys ks) where
 
         no-finer : ⊥
         no-finer =
-            let v : Over ks l (near l c beside) (getD b beside 0) = blk .over beside beside-lt beside-within in
-            none-below (getD b beside 0) k (j + v .up) (v .here) (still-childless beside beside-lt beside-within) (leaf .present)
+            let v : Over ks l (near l c beside) (entry ks l c beside) = blk .over beside beside-lt beside-within in
+            none-below (entry ks l c beside) k (j + v .up) (v .here) (still-childless beside beside-lt beside-within) (leaf .present)
             (ap (λ (n : ℕ). k / 8 ^ n) (omega arith) ∙ sym (up-up k (suc j) (v .up)) ∙ ap (λ (n : ℕ). n / 8 ^ v .up) (sym beside-near) ∙ v .is)
 
       -- so the leaf is as coarse as the cell, or coarser
@@ -195,21 +220,21 @@ module _ (ks : List ℕ) (t : SoundKeys ks) where
         coord-pos : (a : ℕ) → a < 3 → 1 ≤ coord l c a
         coord-pos a h = subst (λ (n : ℕ). 1 ≤ n) (sym (coarse-coord a h)) (mul-pos (bounds a h .0) (pow-pos j))
 
-        all-full : Full b
+        all-full : Full ks l c
         unfolding Within
-        all-full o h = present-pos (getD b o 0) (blk .over o h (all o) .here)
+        all-full o h = present-pos (entry ks l c o) (blk .over o h (all o) .here)
           where
             all : (o : ℕ) → Within l c o
             all o a h = omega (arith, coord-pos a h, bit-le a o)
 
-      one-fine : (j : ℕ) → l ≡ level k + j → Fine l b
+      one-fine : (j : ℕ) → l ≡ level k + j → Fine ks l c
       unfolding near Within
       one-fine (suc j) e =
           ⊎-elim (λ z. absurd (omega arith)) (λ f. f) (blk .fresh (omega (arith, down-is (suc j) e, mul-step at-corner 8 j)))
       one-fine zero e =
           let same : near l c w ≡ k = near-is in
           let inn : Within l c w = near-within in
-          let p : getD b w 0 ≡ near l c w = over-present l (near l c w) (getD b w 0) (blk .over w hw inn) (in-cast same (leaf .present)) in
+          let p : entry ks l c w ≡ near l c w = over-present l (near l c w) (entry ks l c w) (blk .over w hw inn) (in-cast same (leaf .present)) in
           (w, hw, omega (arith, near-cell l c w .low))
         where
           on : (a : ℕ) → a < 3 → coord l c a ≡ coord (level k) k a + bit a w
@@ -228,7 +253,7 @@ module _ (ks : List ℕ) (t : SoundKeys ks) where
       pub record Caught : Type 0 where
         pub is : given k w ≡ lowCorner l c
         pub level-le : level k ≤ l
-        pub meets : Meets l b
+        pub meets : Meets ks l c
 
       pub caught : Caught
       caught =
@@ -245,8 +270,8 @@ module _ (ks : List ℕ) (t : SoundKeys ks) where
 
   -- ---- and back: the block tells that the low corner is listed
 
-  module _ (l c : ℕ) (hl : l ≤ limit) (cc : Cell l c) (b : List ℕ) (mask : ℕ) (blk : Block ks l c b mask)
-      (still : (o : ℕ) → o < 8 → marked mask o ≡ false) (m : Meets l b) where
+  module _ (l c : ℕ) (hl : l ≤ limit) (cc : Cell l c) (blk : Block ks l c)
+      (still : (o : ℕ) → o < 8 → splitAt ks l (entry ks l c o) ≡ false) (m : Meets ks l c) where
     coord-some : (a : ℕ) → a < 3 → 1 ≤ coord l c a
     unfolding Within
     coord-some a h =
@@ -262,16 +287,16 @@ module _ (ks : List ℕ) (t : SoundKeys ks) where
     unfolding Within
     fine-within a h = omega (arith, coord-some a h, bit-le a (m .fine .0))
 
-    fine-over : Over ks l (near l c (m .fine .0)) (getD b (m .fine .0) 0)
+    fine-over : Over ks l (near l c (m .fine .0)) (entry ks l c (m .fine .0))
     fine-over = blk .over (m .fine .0) (m .fine .1) fine-within
 
-    fine-is : getD b (m .fine .0) 0 ≡ near l c (m .fine .0)
-    fine-is = over-same ks l _ _ (near-cell l c (m .fine .0)) (m .fine .2) fine-over
+    fine-is : entry ks l c (m .fine .0) ≡ near l c (m .fine .0)
+    fine-is = same-level ks l _ _ (near-cell l c (m .fine .0)) (m .fine .2) fine-over
 
-    fine-level : level (getD b (m .fine .0) 0) ≡ l
+    fine-level : level (entry ks l c (m .fine .0)) ≡ l
     fine-level = ap level fine-is ∙ cell-level l (near l c (m .fine .0)) (omega arith) (near-cell l c (m .fine .0))
 
-    fine-corner : (a : ℕ) → a < 3 → cornerAt l (getD b (m .fine .0) 0) (m .fine .0) a ≡ coord l c a
+    fine-corner : (a : ℕ) → a < 3 → cornerAt l (entry ks l c (m .fine .0)) (m .fine .0) a ≡ coord l c a
     unfolding near
     fine-corner a h =
         omega (
@@ -285,25 +310,25 @@ module _ (ks : List ℕ) (t : SoundKeys ks) where
     unfolding lowCorner
     giver =
         record {
-          leaf = getD b (m .fine .0) 0;
+          leaf = entry ks l c (m .fine .0);
           corner = m .fine .0;
           is-leaf =
               record {
                 present = fine-over .here;
                 childless =
                     over-childless ks t l _ _ (near-cell l c (m .fine .0)) fine-over
-                    (denied (marked mask (m .fine .0)) _ (still (m .fine .0) (m .fine .1)) (blk .marks (m .fine .0) (m .fine .1)));
+                    (denied (splitAt ks l (entry ks l c (m .fine .0))) _ (still (m .fine .0) (m .fine .1)) (blk .marks (m .fine .0) (m .fine .1)));
               };
           is-corner = m .fine .1;
           gives = gives;
           at-level = fine-level;
         }
       where
-        gives : given (getD b (m .fine .0) 0) (m .fine .0) ≡ lowCorner l c
+        gives : given (entry ks l c (m .fine .0)) (m .fine .0) ≡ lowCorner l c
         gives =
-            ap (λ (n : ℕ). vertexOf n (getD b (m .fine .0) 0) (m .fine .0)) fine-level
-            ∙ vertex-if l (getD b (m .fine .0) 0) (m .fine .0) (omega arith) true
-            (inside-if l (cornerAt l (getD b (m .fine .0) 0) (m .fine .0))
+            ap (λ (n : ℕ). vertexOf n (entry ks l c (m .fine .0)) (m .fine .0)) fine-level
+            ∙ vertex-if l (entry ks l c (m .fine .0)) (m .fine .0) (omega arith) true
+            (inside-if l (cornerAt l (entry ks l c (m .fine .0)) (m .fine .0))
             (λ a h. (omega (arith, fine-corner a h, coord-some a h), omega (arith, fine-corner a h, coord-lt l c a))))
             ∙ ap (λ (n : ℕ). n * 8 ^ (deepest - l))
-            (key-ext l (cornerAt l (getD b (m .fine .0) 0) (m .fine .0)) (coord l c) fine-corner ∙ key-coord l c cc)
+            (key-ext l (cornerAt l (entry ks l c (m .fine .0)) (m .fine .0)) (coord l c) fine-corner ∙ key-coord l c cc)

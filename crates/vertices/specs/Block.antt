@@ -1,63 +1,50 @@
--- The block of a cell: the nodes over it and over the cells one lower on the axes, and which of them are split. Assumes nothing.
-use Prim.Native.Nat.{ℕ, _+_, _*_, _-_, _/_, _%_, _^_, _≤_, _<_}
+-- The block of a cell, as the walk carries it: eight entries and a mask of those that are split. What its steps need, answer and write. Assumes nothing.
+use Prim.Native.Nat.{ℕ, _+_, _*_, _-_, _^_, _≤_, _<_}
 use mathlib.Core.Path.{_≡_}
-use mathlib.Core.Bool.{Bool, true, _&&_}
-use mathlib.Core.Logic.{_⊎_}
+use mathlib.Core.Bool.{Bool, true, false, _&&_}
 use mathlib.Core.List.{List}
 use lib.Bits.{bitAnd, bitXor}
 use lib.Dec.{eqb}
-use lib.ListN.{getD}
-use Rattle.morton.specs.Field.{bit, coord, key}
-use Rattle.morton.specs.Level.{if₀}
-use Rattle.tree.specs.Tree.{In, NoChild, Decides}
-
--- The cell that lies o lower than the cell c of level l: bit a of o is one cell on axis a.
-unfoldable pub near : ℕ → ℕ → ℕ → ℕ
-near l c o = key l (λ a. coord l c a - bit a o)
-
--- It lies in the cube.
-unfoldable pub Within : ℕ → ℕ → ℕ → Type 0
-Within l c o = (a : ℕ) → a < 3 → bit a o ≤ coord l c a
-
--- p is the node over the cell x of level l: x itself, or a leaf that has it.
-pub record Over (ks : List ℕ) (l x p : ℕ) : Type 0 where
-  pub up : ℕ
-  pub low : up ≤ l
-  pub is : x / 8 ^ up ≡ p
-  pub here : In p ks
-  pub leaf : 0 < up → NoChild p ks
-
--- p has level l or more, and children.
-pub record SplitAt (ks : List ℕ) (l p : ℕ) : Type 0 where
-  pub deep : 8 ^ l ≤ p
-  pub split : In (8 * p) ks
+use lib.ListN.{length, getD, set}
+use lib.Seq.{sets}
+use Rattle.morton.specs.Field.{bit}
+use Rattle.morton.specs.Level.{limit, if₀, Cell}
+use Rattle.vertices.specs.Walk.{childSplit, splitAt, entry, Spot, verticesOf, levelsOf}
 
 -- Bit i of a mask is set.
 unfoldable pub marked : ℕ → ℕ → Bool
 marked mask i = eqb (bit i mask) 1
 
--- b is the block of the cell c of level l: entry o is the node over the cell that lies o lower, or 0 outside the cube. A first child has an entry
--- of its own level. The mask tells which entries are split.
-pub record Block (ks : List ℕ) (l c : ℕ) (b : List ℕ) (mask : ℕ) : Type 0 where
-  pub over : (o : ℕ) → o < 8 → Within l c o → Over ks l (near l c o) (getD b o 0)
-  pub out : (o : ℕ) → o < 8 → (Within l c o → ⊥) → getD b o 0 ≡ 0
-  pub fresh : c % 8 ≡ 0 → (l ≡ 0) ⊎ ((o : ℕ) × (o < 8) × (8 ^ l ≤ getD b o 0))
+-- b and mask are the block of the cell c of level l, which is no deeper than the limit.
+pub record Here (ks : List ℕ) (l c : ℕ) (b : List ℕ) (mask : ℕ) : Type 0 where
+  pub shallow : l ≤ limit
+  pub cell : Cell l c
+  pub entries : (o : ℕ) → o < 8 → getD b o 0 ≡ entry ks l c o
   pub small : mask < 2 ^ 8
-  pub marks : (o : ℕ) → o < 8 → Decides (marked mask o) (SplitAt ks l (getD b o 0))
+  pub marks : (o : ℕ) → o < 8 → marked mask o ≡ splitAt ks l (entry ks l c o)
 
--- ---- the block of a child
+-- The grandchildren of each marked entry are numbers of 64 bits.
+abbrev pub Small : List ℕ → ℕ → Type 0
+Small b mask = (o : ℕ) → o < 8 → marked mask o ≡ true → getD b o 0 < 2 ^ 57
 
 -- Which children of the node p are split.
 pub record ChildMarks (ks : List ℕ) (p mask : ℕ) : Type 0 where
   pub small : mask < 2 ^ 8
-  pub marks : (w : ℕ) → w < 8 → Decides (marked mask w) (In (8 * (8 * p + w)) ks)
+  pub marks : (w : ℕ) → w < 8 → marked mask w ≡ childSplit ks p w
 
 -- The same for each split entry of a block, eight bits for each entry.
 abbrev pub BelowMarks : List ℕ → List ℕ → ℕ → ℕ → Type 0
 BelowMarks ks b mask below =
-    (o : ℕ) → o < 8 → marked mask o ≡ true → (w : ℕ) → w < 8 → Decides (marked below (8 * o + w)) (In (8 * (8 * getD b o 0 + w)) ks)
+    (o : ℕ) → o < 8 → marked mask o ≡ true → (w : ℕ) → w < 8 → marked below (8 * o + w) ≡ childSplit ks (getD b o 0) w
 
--- Entry o of the block of child q: a child of the entry of the parent's block that lies that way, or that entry itself where it is not split.
+-- Which entries are no node.
+pub record Gaps (b : List ℕ) (gaps : ℕ) : Type 0 where
+  pub small : gaps < 2 ^ 8
+  pub marks : (o : ℕ) → o < 8 → marked gaps o ≡ eqb (getD b o 0) 0
+
+-- ---- the block of child q
+
+-- Entry o is a child of the entry of the parent's block that lies that way, or that entry itself where it is not split.
 unfoldable pub lowered : List ℕ → ℕ → ℕ → ℕ → ℕ
 lowered b mask q o =
     if₀ (marked mask (bitAnd o (7 - q))) (8 * getD b (bitAnd o (7 - q)) 0 + bitXor q o) (getD b (bitAnd o (7 - q)) 0)
@@ -71,3 +58,23 @@ Lowered b mask q d = (o : ℕ) → o < 8 → getD d o 0 ≡ lowered b mask q o
 pub record LoweredMarks (mask below q r : ℕ) : Type 0 where
   pub small : r < 2 ^ 8
   pub marks : (o : ℕ) → o < 8 → marked r o ≡ loweredMark mask below q o
+
+-- Where r is 0, no child that the block of child q has is marked.
+abbrev pub SeenSays : ℕ → ℕ → ℕ → Type 0
+SeenSays below q r = r ≡ 0 → (o : ℕ) → o < 8 → marked below (8 * bitAnd o (7 - q) + bitXor q o) ≡ false
+
+-- No entry that child q sees is a gap, and one is split.
+pub record Touched (gaps mask q : ℕ) : Type 0 where
+  pub full : (o : ℕ) → o < 8 → marked gaps (bitAnd o (7 - q)) ≡ false
+  pub fine : (o : ℕ) × (o < 8) × (marked mask (bitAnd o (7 - q)) ≡ true)
+
+-- ---- tables
+
+-- A vertex and its level stand at a place, if both tables have it.
+abbrev pub PutSays : List ℕ → List ℕ → ℕ → ℕ → ℕ → List ℕ → List ℕ → Type 0
+PutSays v0 l0 at v l v1 l1 = at < length v0 → at < length l0 → (v1 ≡ set v0 at v) × (l1 ≡ set l0 at l)
+
+-- These vertices stand from place at on, r being the place after them, if both tables have room.
+pub record Laid (ss : List Spot) (at r : ℕ) (v0 l0 v1 l1 : List ℕ) : Type 0 where
+  pub count : r ≡ at + length ss
+  pub tables : r ≤ length v0 → r ≤ length l0 → (v1 ≡ sets v0 at (verticesOf ss)) × (l1 ≡ sets l0 at (levelsOf ss))

@@ -1,4 +1,4 @@
--- What the contract of `list` cites. Block and Walk are words for its steps.
+-- What the contracts of `list` and `list_trusting` cite. Block is words for the steps of the walk.
+pub mod Walk
 pub mod Listing
 pub mod Block
-pub mod Walk

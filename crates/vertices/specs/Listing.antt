@@ -8,6 +8,7 @@ use Rattle.tree.specs.Tree.{Tree, Sound}
 use Rattle.geometry.specs.Listing.{Listed}
 use Rattle.vertices.specs.declared.ListAnswer.{ListAnswer}
 use Rattle.vertices.specs.declared.ListAnswer.the-variants.{Count, Refused}
+use Rattle.vertices.specs.Walk.{spotsOf, verticesOf, levelsOf}
 
 -- The vertex table and the level table.
 pub record Lists : Type 0 where
@@ -48,3 +49,12 @@ abbrev pub ListSays : Tree → ℕ → Lists → Lists → ListAnswer → Type 0
 ListSays t start was left (Count n) = Sound t × Wrote (t .leaves) start n was left
 ListSays t start was left (Refused k) =
     (left ≡ was) × (((Sound t → ⊥) × (k ≡ 11)) ⊎ (Sound t × Short (t .leaves) start was × (k ≡ 12)))
+
+-- ---- the same on any table of keys at all, where no tree need be sound
+
+-- The vertices that the walk finds stand from the start place on. Refusal 12.
+abbrev pub TrustingSays : List ℕ → ℕ → Lists → Lists → ListAnswer → Type 0
+TrustingSays ks start was left (Count n) =
+    (n ≡ length (spotsOf ks)) × Room start n was
+    × (left ≡ listsOf (written (was .vertices) start (verticesOf (spotsOf ks))) (written (was .levels) start (levelsOf (spotsOf ks))))
+TrustingSays ks start was left (Refused k) = (left ≡ was) × (Room start (length (spotsOf ks)) was → ⊥) × (k ≡ 12)

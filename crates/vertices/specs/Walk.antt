@@ -1,89 +1,105 @@
--- What the steps of the walk over a tree's cells need, answer and write. Assumes nothing.
-use Prim.Native.Nat.{ℕ, _+_, _*_, _-_, _^_, _≤_, _<_}
-use mathlib.Core.Path.{_≡_}
-use mathlib.Core.Bool.{true}
-use mathlib.Core.List.{List}
-use lib.Ieee.{Float}
-use lib.ListN.{length, getD, set}
-use lib.Seq.{sets}
-use Rattle.morton.specs.Level.{deepest, limit, Cell, level}
-use Rattle.tree.specs.Tree.{In, NoChild, Ascending, Sound, treeOf}
-use Rattle.geometry.specs.Listing.{given}
-use Rattle.vertices.specs.declared.ListAnswer.{ListAnswer}
-use Rattle.vertices.specs.Block.{marked, Block}
-use Rattle.vertices.specs.Listing.{Lists, ListSays}
+-- The walk over a tree's cells that finds its vertices, on any table of keys at all: no tree need be sound. Assumes nothing.
+use Prim.Native.Nat.{ℕ, zero, suc, _+_, _*_, _-_, _/_, _%_, _^_}
+use mathlib.Core.Bool.{Bool, true, false, cond, _&&_, _||_}
+use mathlib.Core.List.{List, [], _∷_, _++_}
+use lib.Dec.{eqb, leb, ltb}
+use lib.ListN.{length}
+use Rattle.morton.specs.Field.{bit, coord, key}
+use Rattle.morton.specs.Level.{deepest, limit, if₀}
+use Rattle.tree.specs.Climb.{firstFrom, standsAt}
 
--- The keys of some sound tree.
-pub record SoundKeys (ks : List ℕ) : Type 0 where
-  pub distances : List Float
-  pub leaves : List ℕ
-  pub sound : Sound (treeOf ks distances leaves)
+-- ---- which nodes are split
 
--- A key without children.
-pub record Leaf (ks : List ℕ) (k : ℕ) : Type 0 where
-  pub present : In k ks
-  pub childless : NoChild k ks
+-- Where the children of child w of the node p would stand: the search for the first child's children ends at the first that there are, and each child
+-- with children takes eight places.
+unfoldable pub childrenAt : List ℕ → ℕ → ℕ → ℕ
+childrenAt ks p zero = firstFrom ks (length ks) (64 * p)
+childrenAt ks p (suc w) =
+    childrenAt ks p w + if₀ (standsAt ks (length ks) (childrenAt ks p w) (8 * (8 * p + w))) 8 0
+
+-- They stand there.
+unfoldable pub childSplit : List ℕ → ℕ → ℕ → Bool
+childSplit ks p w = standsAt ks (length ks) (childrenAt ks p w) (8 * (8 * p + w))
+
+unfoldable pub rootSplit : List ℕ → Bool
+rootSplit ks = standsAt ks (length ks) (firstFrom ks (length ks) 8) 8
+
+unfoldable pub isSplit : List ℕ → ℕ → Bool
+isSplit ks k = cond (eqb k 1) (rootSplit ks) (childSplit ks (k / 8) (k % 8))
+
+-- p has level l or more, and is split.
+unfoldable pub splitAt : List ℕ → ℕ → ℕ → Bool
+splitAt ks l p = leb (8 ^ l) p && isSplit ks p
+
+-- ---- the nodes round the low corner of a cell
+
+-- The cell that lies o lower than the cell c of level l: bit a of o is one cell on axis a.
+unfoldable pub near : ℕ → ℕ → ℕ → ℕ
+near l c o = key l (λ a. coord l c a - bit a o)
+
+-- It lies in the cube.
+unfoldable pub inCube : ℕ → ℕ → ℕ → Bool
+inCube l c o = leb (bit 0 o) (coord l c 0) && (leb (bit 1 o) (coord l c 1) && leb (bit 2 o) (coord l c 2))
+
+-- The node over the cell x of level l: x itself if its parent is a split node, else the node over the parent.
+unfoldable pub over : List ℕ → ℕ → ℕ → ℕ
+over ks zero x = x
+over ks (suc l) x = if₀ (splitAt ks l (over ks l (x / 8))) x (over ks l (x / 8))
+
+-- Entry o of the cell c: the node over the cell that lies o lower, or 0 outside the cube.
+unfoldable pub entry : List ℕ → ℕ → ℕ → ℕ → ℕ
+entry ks l c o = if₀ (inCube l c o) (over ks l (near l c o)) 0
+
+-- ---- the walk
+
+-- Some f i, all f i, for i from 0 to n - 1.
+unfoldable pub some : (ℕ → Bool) → ℕ → Bool
+some f zero = false
+some f (suc n) = some f n || f n
+
+unfoldable pub all : (ℕ → Bool) → ℕ → Bool
+all f zero = true
+all f (suc n) = all f n && f n
+
+-- A vertex with its level.
+pub record Spot : Type 0 where
+  pub vertex : ℕ
+  pub level : ℕ
+
+-- f 0, f 1, .., f (n - 1) one after another.
+unfoldable pub inTurn : (ℕ → List Spot) → ℕ → List Spot
+inTurn f zero = []
+inTurn f (suc n) = inTurn f n ++ f n
 
 -- The low corner of the cell c of level l, as a vertex.
 unfoldable pub lowCorner : ℕ → ℕ → ℕ
 lowCorner l c = c * 8 ^ (deepest - l)
 
--- All eight entries are nodes; one of them has level l or more; both.
-abbrev pub Full : List ℕ → Type 0
-Full b = (o : ℕ) → o < 8 → 0 < getD b o 0
+-- Some entry of a cell is split.
+unfoldable pub divided : List ℕ → ℕ → ℕ → Bool
+divided ks l c = some (λ o. splitAt ks l (entry ks l c o)) 8
 
-abbrev pub Fine : ℕ → List ℕ → Type 0
-Fine l b = (o : ℕ) × (o < 8) × (8 ^ l ≤ getD b o 0)
+-- All entries are nodes, and one has the cell's own level.
+unfoldable pub meets : List ℕ → ℕ → ℕ → Bool
+meets ks l c = all (λ o. ltb 0 (entry ks l c o)) 8 && some (λ o. leb (8 ^ l) (entry ks l c o)) 8
 
-pub record Meets (l : ℕ) (b : List ℕ) : Type 0 where
-  pub full : Full b
-  pub fine : Fine l b
+-- Where no entry is split the walk ends: the cell's low corner is listed, or nothing is.
+unfoldable pub ending : List ℕ → ℕ → ℕ → List Spot
+ending ks l c = cond (meets ks l c) (record { vertex = lowCorner l c; level = l } ∷ []) []
 
--- Each marked entry of a block has children.
-abbrev pub Splits : List ℕ → List ℕ → ℕ → Type 0
-Splits ks b mask = (o : ℕ) → o < 8 → marked mask o ≡ true → In (8 * getD b o 0) ks
+-- Else it goes into the cell's children, and so many levels down.
+unfoldable pub walked : ℕ → List ℕ → ℕ → ℕ → List Spot
+walked zero ks l c = cond (divided ks l c) [] (ending ks l c)
+walked (suc levels) ks l c = cond (divided ks l c) (inTurn (λ q. walked levels ks (suc l) (8 * c + q)) 8) (ending ks l c)
 
--- Their children are numbers of 64 bits.
-abbrev pub Small : List ℕ → ℕ → Type 0
-Small b mask = (o : ℕ) → o < 8 → marked mask o ≡ true → getD b o 0 < 2 ^ 60
+-- From the root down to the limit.
+unfoldable pub spotsOf : List ℕ → List Spot
+spotsOf ks = walked limit ks 0 1
 
--- b is the block of the cell c of level l.
-pub record Here (ks : List ℕ) (l c : ℕ) (b : List ℕ) (mask : ℕ) : Type 0 where
-  pub shallow : l ≤ limit
-  pub cell : Cell l c
-  pub block : Block ks l c b mask
+unfoldable pub verticesOf : List Spot → List ℕ
+verticesOf [] = []
+verticesOf (s ∷ ss) = s .vertex ∷ verticesOf ss
 
--- A leaf of level L gives the vertex v.
-pub record GivenBy (ks : List ℕ) (v L : ℕ) : Type 0 where
-  pub leaf : ℕ
-  pub corner : ℕ
-  pub is-leaf : Leaf ks leaf
-  pub is-corner : corner < 8
-  pub gives : given leaf corner ≡ v
-  pub at-level : level leaf ≡ L
-
--- The listed vertices from lo up to hi, with their levels.
-pub record Ranged (ks : List ℕ) (lo hi : ℕ) (vs ls : List ℕ) : Type 0 where
-  pub ascending : Ascending vs
-  pub between : (x : ℕ) → In x vs → (lo ≤ x) × (x < hi)
-  pub paired : length ls ≡ length vs
-  pub whole : (k w : ℕ) → Leaf ks k → w < 8 → lo ≤ given k w → given k w < hi → In (given k w) vs
-  pub from : (i : ℕ) → i < length vs → GivenBy ks (getD vs i 0) (getD ls i 0)
-  pub greatest : (i k w : ℕ) → i < length vs → Leaf ks k → w < 8 → given k w ≡ getD vs i 0 → level k ≤ getD ls i 0
-
--- A vertex and its level stand at a place, if both tables have it.
-abbrev pub PutSays : List ℕ → List ℕ → ℕ → ℕ → ℕ → List ℕ → List ℕ → Type 0
-PutSays v0 l0 at v l v1 l1 = at < length v0 → at < length l0 → (v1 ≡ set v0 at v) × (l1 ≡ set l0 at l)
-
--- The listed vertices from lo up to hi stand from place at on, r being the place after them, if both tables have room.
-pub record Walked (ks : List ℕ) (lo hi at r : ℕ) (v0 l0 v1 l1 : List ℕ) : Type 0 where
-  pub vs : List ℕ
-  pub ls : List ℕ
-  pub ranged : Ranged ks lo hi vs ls
-  pub count : r ≡ at + length vs
-  pub tables : r ≤ length v0 → r ≤ length l0 → (v1 ≡ sets v0 at vs) × (l1 ≡ sets l0 at ls)
-
--- The promise of the list, of any sound tree that has these keys.
-abbrev pub SoundSays : List ℕ → ℕ → Lists → Lists → ListAnswer → Type 0
-SoundSays ks start was left r =
-    (distances : List Float) (leaves : List ℕ) → Sound (treeOf ks distances leaves) → ListSays (treeOf ks distances leaves) start was left r
+unfoldable pub levelsOf : List Spot → List ℕ
+levelsOf [] = []
+levelsOf (s ∷ ss) = s .level ∷ levelsOf ss

@@ -1,12 +1,12 @@
 // The vertices of a finished tree. From `compute_primal_vertices` in src/linear_hashed_marching_cubes.rs of isosurface 0.0.4.
-use morton::Key;
 ghost use mathlib.Core.Path.{_≡_};
+ghost use mathlib.Core.Bool.{true, false};
 ghost use Prim.Native.Nat.{_+_, _-_, _*_, _^_, _<_, _≤_};
-ghost use Rattle.morton.specs.Level.{deepest, limit, Cell};
-ghost use Rattle.tree.specs.Tree.{treeOf, In, Decides};
-ghost use Rattle.vertices.specs.Block.{marked, ChildMarks, BelowMarks, Lowered, LoweredMarks};
-ghost use Rattle.vertices.specs.Listing.{listsOf, ListSays};
-ghost use Rattle.vertices.specs.Walk.{SoundKeys, Splits, Small, Full, Fine, Meets, Here, lowCorner, PutSays, Walked, SoundSays};
+ghost use Rattle.morton.specs.Level.{limit, Cell};
+ghost use Rattle.tree.specs.Tree.{treeOf, Decides};
+ghost use Rattle.vertices.specs.Walk.{divided, lowCorner, walked, spotsOf};
+ghost use Rattle.vertices.specs.Listing.{listsOf, ListSays, TrustingSays};
+ghost use Rattle.vertices.specs.Block.{marked, Here, Small, ChildMarks, BelowMarks, Gaps, SeenSays, Lowered, LoweredMarks, Touched, PutSays, Laid};
 
 // How many vertices there are, or the number of the refusal.
 pub enum ListAnswer {
@@ -14,9 +14,24 @@ pub enum ListAnswer {
     Refused(u32),
 }
 
-// The vertex list goes over the cells from the root down, by blocks of eight nodes (specs/Block.antt), and so finds the vertices in order. A block
-// comes with a mask of its split entries: bit o is set where entry o has the cell's own level and children. Where none has, the walk ends: the
-// cell's low corner is listed, or nothing is.
+// The walk goes over the cells from the root down (specs/Walk.antt), and so finds the vertices in order. It carries a cell's eight entries as a block,
+// and a mask of those that are split: bit o is set where entry o has the cell's own level and children. Where none is, the walk ends: the cell's low
+// corner is listed, or nothing is.
+
+// For child q, the entries of the parent's block that its own entries lie in: those that are lower on no axis on which q is higher.
+const KEPT: [u64; 8] = [255, 85, 51, 17, 15, 5, 3, 1];
+
+// And which of their children its own entries are, eight bits for each entry.
+const SEEN: [u64; 8] = [
+    0x8040201008040201,
+    0xc00030000c0003,
+    0xa05000000a05,
+    0xf00000000f,
+    0x88442211,
+    0xcc0033,
+    0xaa55,
+    0xff,
+];
 
 // Whether bit i of a mask is set.
 fn marked(mask: u64, i: usize) -> bool
@@ -26,10 +41,9 @@ fn marked(mask: u64, i: usize) -> bool
     (mask >> i) % 2 == 1
 }
 
-// Which children of a split node are split themselves. The children of those follow one another, so one search is enough.
+// Which children of a node are split themselves. The children of those follow one another, so one search is enough.
 fn split_children(keys: &[u64], node: u64) -> u64
-    requires { ⌜ SoundKeys (now keys) ⌝ }
-    requires { ⌜ In (8 * node) (now keys) ⌝ }
+    requires { ⌜ node < 2 ^ 57 ⌝ }
     ensures { λ r. ⌜ ChildMarks (now (keys .entry)) node r ⌝ }
 {
     let mut at = tree::first_from(keys, 64 * node);
@@ -49,8 +63,7 @@ fn split_children(keys: &[u64], node: u64) -> u64
 
 // The same for each split entry of a block, eight bits for each entry.
 fn split_below(keys: &[u64], block: [u64; 8], mask: u64) -> u64
-    requires { ⌜ SoundKeys (now keys) ⌝ }
-    requires { ⌜ Splits (now keys) block mask ⌝ }
+    requires { ⌜ Small block mask ⌝ }
     ensures { λ r. ⌜ BelowMarks (now (keys .entry)) block mask r ⌝ }
 {
     let mut below = 0;
@@ -64,6 +77,23 @@ fn split_below(keys: &[u64], block: [u64; 8], mask: u64) -> u64
         }
     }
     below
+}
+
+// Which entries are no node.
+fn gaps_of(block: [u64; 8]) -> u64
+    ensures { λ r. ⌜ Gaps block r ⌝ }
+{
+    let mut gaps = 0;
+    let mut o: usize = 0;
+    while o < 8 {
+        if block[o] == 0 {
+            gaps += 1 << o;
+            o += 1;
+        } else {
+            o += 1;
+        }
+    }
+    gaps
 }
 
 // The block of child q.
@@ -87,11 +117,22 @@ fn lower(block: [u64; 8], mask: u64, q: usize) -> [u64; 8]
     out
 }
 
-// Its mask.
+// The bits of the entries' split children that child q sees. Where there are none, as for most children, its own mask is 0.
+fn seen(below: u64, q: usize) -> u64
+    requires { ⌜ q < 8 ⌝ }
+    ensures { λ r. ⌜ SeenSays below q r ⌝ }
+{
+    below & SEEN[q]
+}
+
+// The mask of child q.
 fn lower_mask(mask: u64, below: u64, q: usize) -> u64
     requires { ⌜ q < 8 ⌝ }
     ensures { λ r. ⌜ LoweredMarks mask below q r ⌝ }
 {
+    if seen(below, q) == 0 {
+        return 0;
+    }
     let mut out = 0;
     let mut o: usize = 0;
     while o < 8 {
@@ -110,45 +151,16 @@ fn lower_mask(mask: u64, below: u64, q: usize) -> u64
     out
 }
 
-// Whether all eight are nodes.
-fn full(block: [u64; 8]) -> bool
-    ensures { λ r. ⌜ Decides r (Full block) ⌝ }
+// Whether the low corner of child q is listed, where none of its entries is split.
+fn touched(gaps: u64, mask: u64, q: usize) -> bool
+    requires { ⌜ (q < 8) × (mask < 2 ^ 8) × (gaps < 2 ^ 8) ⌝ }
+    ensures { λ r. ⌜ Decides r (Touched gaps mask q) ⌝ }
 {
-    let mut o = 0;
-    while o < 8 {
-        if block[o] == 0 {
-            return false;
-        }
-        o += 1;
-    }
-    true
-}
-
-// Whether one of them has this level.
-fn fine(level: u8, block: [u64; 8]) -> bool
-    requires { ⌜ level ≤ limit ⌝ }
-    ensures { λ r. ⌜ Decides r (Fine level block) ⌝ }
-{
-    let low: u64 = 1 << (level * 3);
-    let mut o = 0;
-    while o < 8 {
-        if block[o] >= low {
-            return true;
-        }
-        o += 1;
-    }
-    false
-}
-
-// Whether the low corner of a cell with no split entry is listed.
-fn meets(level: u8, block: [u64; 8]) -> bool
-    requires { ⌜ level ≤ limit ⌝ }
-    ensures { λ r. ⌜ Decides r (Meets level block) ⌝ }
-{
-    if !full(block) {
+    let kept = KEPT[q];
+    if gaps & kept != 0 {
         return false;
     }
-    if !fine(level, block) {
+    if mask & kept == 0 {
         return false;
     }
     true
@@ -175,7 +187,7 @@ fn put(vertices: &mut [u64], levels: &mut [u8], at: usize, vertex: u64, level: u
     }
 }
 
-// Writes the listed vertices of a cell from place at on, as far as both tables go; the place after the last, had they room.
+// Writes the listed vertices of a divided cell from place at on, as far as both tables go; the place after the last, had they room.
 fn walk(
     keys: &[u64],
     level: u8,
@@ -186,50 +198,57 @@ fn walk(
     levels: &mut [u8],
     at: usize,
 ) -> usize
-    requires { ⌜ SoundKeys (now keys) ⌝ }
     requires { ⌜ Here (now keys) level cell block mask ⌝ }
-    requires { ⌜ at + 8 ^ (deepest - level) < 2 ^ 64 ⌝ }
-    ensures { λ r. ⌜ Walked (now (keys .entry)) (lowCorner level cell) (lowCorner level (cell + 1)) at r (now (vertices .entry)) (now (levels .entry)) (now (vertices .exit)) (now (levels .exit)) ⌝ }
+    requires { ⌜ divided (now keys) level cell ≡ true ⌝ }
+    requires { ⌜ at + 8 ^ (limit - level) < 2 ^ 64 ⌝ }
+    ensures { λ r. ⌜ Laid (walked (limit - level) (now (keys .entry)) level cell) at r (now (vertices .entry)) (now (levels .entry)) (now (vertices .exit)) (now (levels .exit)) ⌝ }
 {
-    if mask == 0 {
-        if !meets(level, block) {
-            return at;
-        }
-        put(vertices, levels, at, low_corner(level, cell), level);
-        return at + 1;
+    if level as u32 >= morton::LIMIT {
+        return at;
     }
     let below = split_below(keys, block, mask);
+    let gaps = gaps_of(block);
     let mut n = at;
     let mut q: usize = 0;
     while q < 8 {
-        let child = lower(block, mask, q);
         let child_mask = lower_mask(mask, below, q);
-        n = walk(
-            keys,
-            level + 1,
-            8 * cell + q as u64,
-            child,
-            child_mask,
-            vertices,
-            levels,
-            n,
-        );
-        q += 1;
+        if child_mask == 0 {
+            if touched(gaps, mask, q) {
+                let vertex = low_corner(level + 1, 8 * cell + q as u64);
+                put(vertices, levels, n, vertex, level + 1);
+                n += 1;
+                q += 1;
+            } else {
+                q += 1;
+            }
+        } else {
+            let child = lower(block, mask, q);
+            n = walk(
+                keys,
+                level + 1,
+                8 * cell + q as u64,
+                child,
+                child_mask,
+                vertices,
+                levels,
+                n,
+            );
+            q += 1;
+        }
     }
     n
 }
 
 // Lists the whole tree from the tables' first place on; the number of its vertices.
 fn whole(keys: &[u64], vertices: &mut [u64], levels: &mut [u8]) -> usize
-    requires { ⌜ SoundKeys (now keys) ⌝ }
-    ensures { λ r. ⌜ Walked (now (keys .entry)) (lowCorner 0 1) (lowCorner 0 2) 0 r (now (vertices .entry)) (now (levels .entry)) (now (vertices .exit)) (now (levels .exit)) ⌝ }
+    ensures { λ r. ⌜ Laid (spotsOf (now (keys .entry))) 0 r (now (vertices .entry)) (now (levels .entry)) (now (vertices .exit)) (now (levels .exit)) ⌝ }
 {
     let root = [1, 0, 0, 0, 0, 0, 0, 0];
     let at = tree::first_from(keys, 8);
     if tree::stands(keys, at, 8) {
         return walk(keys, 0, 1, root, 1, vertices, levels, 0);
     }
-    walk(keys, 0, 1, root, 0, vertices, levels, 0)
+    0
 }
 
 // Whether n places from a start place on lie in a table.
@@ -245,10 +264,15 @@ fn has_room(len: usize, start: usize, n: usize) -> bool
     true
 }
 
-// The list of a sound tree's vertices. They are counted first, into tables that don't leave the call.
-fn list_sound(keys: &[u64], start: usize, vertices: &mut [u64], levels: &mut [u8]) -> ListAnswer
-    requires { ⌜ SoundKeys (now keys) ⌝ }
-    ensures { λ r. ⌜ SoundSays (now (keys .entry)) start (listsOf (now (vertices .entry)) (now (levels .entry))) (listsOf (now (vertices .exit)) (now (levels .exit))) r ⌝ }
+// The list of a tree's vertices, written from a start place on, for one who knows that the tree is sound; of other tables, what the same walk comes
+// to. They are counted first, into tables that don't leave the call.
+pub fn list_trusting(
+    keys: &[u64],
+    start: usize,
+    vertices: &mut [u64],
+    levels: &mut [u8],
+) -> ListAnswer
+    ensures { λ r. ⌜ TrustingSays (now (keys .entry)) start (listsOf (now (vertices .entry)) (now (levels .entry))) (listsOf (now (vertices .exit)) (now (levels .exit))) r ⌝ }
 {
     let mut no_vertices = [0u64; 1];
     let mut no_levels = [0u8; 1];
@@ -263,7 +287,7 @@ fn list_sound(keys: &[u64], start: usize, vertices: &mut [u64], levels: &mut [u8
     ListAnswer::Count(m)
 }
 
-// The list of a tree's vertices, written from a start place on.
+// The list of a sound tree's vertices, written from a start place on.
 pub fn list(
     keys: &[u64],
     distances: &[f32],
@@ -277,5 +301,5 @@ pub fn list(
     if !tree::sound(keys, distances, leaves) {
         return ListAnswer::Refused(11);
     }
-    list_sound(keys, start, vertices, levels)
+    list_trusting(keys, start, vertices, levels)
 }

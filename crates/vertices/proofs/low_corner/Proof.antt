@@ -1,6 +1,6 @@
 -- `low_corner` meets its contract: the cell moved up is its low corner, and nothing is lost. Assumes nothing.
 use borrow.Author.Needs.{needs}
-use Rattle.vertices.proofs.Ways.{shift-cell}
+use Rattle.vertices.proofs.Blocks.{shift-cell}
 use Rattle.vertices.proofs.low_corner.Statement.{statement}
 use Rattle.vertices.proofs.low_corner.Tie as tie
 

@@ -8,8 +8,7 @@ use lib.Bits.{bitAnd}
 use lib.ListN.{length-set}
 use Rattle.vertices.specs.Block.{marked, lowered}
 use Rattle.vertices.proofs.Offsets.{kept-lt, flip-lt}
-use Rattle.vertices.proofs.Step.{lowered-yes, lowered-no}
-use Rattle.vertices.proofs.Ways.{filled-more}
+use Rattle.vertices.proofs.Blocks.{lowered-yes, lowered-no, filled-more}
 use Rattle.vertices.proofs.lower.Statement.{statement}
 use Rattle.vertices.proofs.lower.Tie as tie
 

@@ -27,7 +27,7 @@ array-read-split-children : tie.Need-array-read-split-children Inv-loop μ-loop
 array-read-split-children c = search needs
 
 split-children-requires : tie.Need-split-children-requires Inv-loop μ-loop
-split-children-requires c κs = let s = c .before .before .before .before .before in (s .pre .0, s .pre .1 (c .before .before .before .loop .o) (omega arith) (sym (c .before .marked .ensures) ∙ c .if1 .taken))
+split-children-requires c κs = let s = c .before .before .before .before .before in s .pre (c .before .before .before .loop .o) (omega arith) (sym (c .before .marked .ensures) ∙ c .if1 .taken)
 
 mul-below : tie.Need-mul-below Inv-loop μ-loop
 mul-below c = search needs

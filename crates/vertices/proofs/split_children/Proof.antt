@@ -3,7 +3,7 @@ use Prim.Native.Nat.{_-_, _≤_}
 use native.Mathlib.Omega.{arith}
 use borrow.Author.Needs.{needs}
 use Rattle.tree.proofs.Pass.{said, denied}
-use Rattle.vertices.proofs.Marks.{Told, told-none, told-yes, told-no, told-fits, told-all, node-lt}
+use Rattle.vertices.proofs.Marks.{Told, told-none, told-yes, told-no, told-fits, told-all}
 use Rattle.vertices.proofs.split_children.Statement.{statement}
 use Rattle.vertices.proofs.split_children.Tie as tie
 
@@ -14,22 +14,22 @@ abbrev μ-loop : tie.MeasureT-loop
 μ-loop keys node at₀ mask₀ w₀ at mask w = 8 - w
 
 mul-first-from : tie.Need-mul-first-from Inv-loop μ-loop
-mul-first-from c = let s = c .before in record { fits = omega (arith, node-lt _ (s .pre .0) _ (s .pre .1)) }
+mul-first-from c = let s = c .before in record { fits = omega (arith, s .pre) }
 
 first-from-requires : tie.Need-first-from-requires Inv-loop μ-loop
 first-from-requires c κs = search needs
 
 loop-holds : tie.Need-loop-holds Inv-loop μ-loop
-loop-holds c = let s = c .before .before in (omega arith, told-none _ (s .pre .0) _ (s .pre .1) _ (c .first-from .ensures))
+loop-holds c = (omega arith, told-none _ _ _ (c .first-from .ensures))
 
 mul-stands : tie.Need-mul-stands Inv-loop μ-loop
-mul-stands c = let s = c .before .before .before .before in record { fits = omega (arith, node-lt _ (s .pre .0) _ (s .pre .1)) }
+mul-stands c = let s = c .before .before .before .before in record { fits = omega (arith, s .pre) }
 
 mul-stands-2 : tie.Need-mul-stands-2 Inv-loop μ-loop
 mul-stands-2 c = search needs
 
 add-stands : tie.Need-add-stands Inv-loop μ-loop
-add-stands c = let s = c .before .before .before .before in record { fits = omega (arith, node-lt _ (s .pre .0) _ (s .pre .1)) }
+add-stands c = let s = c .before .before .before .before in record { fits = omega (arith, s .pre) }
 
 stands-requires : tie.Need-stands-requires Inv-loop μ-loop
 stands-requires c κs = search needs
@@ -38,10 +38,10 @@ shl-mask : tie.Need-shl-mask Inv-loop μ-loop
 shl-mask c = search needs
 
 add-mask : tie.Need-add-mask Inv-loop μ-loop
-add-mask c = let s = c .before .before .before .before .before .before in let l = c .before .before .before .loop in record { fits = told-fits _ (s .pre .0) _ (s .pre .1) (l .w) (l .at) (l .mask) (omega arith) (l .inv .1) }
+add-mask c = let s = c .before .before .before .before .before .before in let l = c .before .before .before .loop in record { fits = told-fits _ _ (l .w) (l .at) (l .mask) (omega arith) (l .inv .1) }
 
 add-at : tie.Need-add-at Inv-loop μ-loop
-add-at c = search needs
+add-at c = record { fits = omega (arith, said (c .before .stands .result) _ (c .if1 .taken) (c .before .stands .ensures) .inside) }
 
 add-w : tie.Need-add-w Inv-loop μ-loop
 add-w c = search needs
@@ -51,7 +51,7 @@ loop-less c = search needs
 
 loop-again : tie.Need-loop-again Inv-loop μ-loop
 loop-again c = let s = c .before .before .before .before .before .before in let l = c .before .before .before .loop in
-    (omega arith, told-yes _ (s .pre .0) _ (s .pre .1) (l .w) (l .at) (l .mask) (omega arith) (l .inv .1) (said (c .before .stands .result) _ (c .if1 .taken) (c .before .stands .ensures)))
+    (omega arith, told-yes _ _ (l .w) (l .at) (l .mask) (omega arith) (l .inv .1) (said (c .before .stands .result) _ (c .if1 .taken) (c .before .stands .ensures)))
 
 add-w-2 : tie.Need-add-w-2 Inv-loop μ-loop
 add-w-2 c = search needs
@@ -61,10 +61,10 @@ loop-less-2 c = search needs
 
 loop-again-2 : tie.Need-loop-again-2 Inv-loop μ-loop
 loop-again-2 c = let s = c .before .before .before .before .before .before in let l = c .before .before .before .loop in
-    (omega arith, told-no _ (s .pre .0) _ (s .pre .1) (l .w) (l .at) (l .mask) (omega arith) (l .inv .1) (denied (c .before .stands .result) _ (c .if1 .left) (c .before .stands .ensures)))
+    (omega arith, told-no _ _ (l .w) (l .at) (l .mask) (omega arith) (l .inv .1) (denied (c .before .stands .result) _ (c .if1 .left) (c .before .stands .ensures)))
 
 returns : tie.Need-returns Inv-loop μ-loop
-returns c = let s = c .before .before .before .before in told-all _ (s .pre .0) _ (s .pre .1) (c .before .loop .w) _ _ (omega arith) (c .before .loop .inv .1)
+returns c = told-all _ _ (c .before .loop .w) _ _ (omega arith) (c .before .loop .inv .1)
 
 pub split-children-spec : {M : Type 1} → statement M
 split-children-spec =

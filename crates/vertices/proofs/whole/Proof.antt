@@ -2,7 +2,7 @@
 use native.Mathlib.Omega.{arith}
 use borrow.Author.Needs.{needs}
 use Rattle.tree.proofs.Pass.{said, denied}
-use Rattle.vertices.proofs.Ways.{root-split, root-alone}
+use Rattle.vertices.proofs.Root.{root-here, root-alone, root-walked}
 use Rattle.vertices.proofs.whole.Statement.{statement}
 use Rattle.vertices.proofs.whole.Tie as tie
 
@@ -13,8 +13,9 @@ stands-requires : tie.Need-stands-requires
 stands-requires c κs = search needs
 
 walk-requires : tie.Need-walk-requires
-walk-requires c κs = let s = c .before .before .before .before .before .before .before .before in
-    (s .pre, (root-split _ (s .pre) _ (c .before .before .before .before .first-from .ensures) (said (c .before .before .before .stands .result) _ (c .before .before .if1 .taken) (c .before .before .before .stands .ensures)), omega arith))
+walk-requires c κs =
+    let r = root-here _ _ (c .before .before .before .before .first-from .ensures) (said (c .before .before .before .stands .result) _ (c .before .before .if1 .taken) (c .before .before .before .stands .ensures)) in
+    (r .0, (r .1, omega arith))
 
 same-length : tie.Need-same-length
 same-length c = search needs
@@ -23,20 +24,10 @@ same-length-2 : tie.Need-same-length-2
 same-length-2 c = search needs
 
 returns : tie.Need-returns
-returns c = search needs
-
-walk-requires-2 : tie.Need-walk-requires-2
-walk-requires-2 c κs = let s = c .before .before .before .before .before .before .before .before in
-    (s .pre, (root-alone _ (s .pre) _ (c .before .before .before .before .first-from .ensures) (denied (c .before .before .before .stands .result) _ (c .before .before .if1 .left) (c .before .before .before .stands .ensures)), omega arith))
-
-same-length-3 : tie.Need-same-length-3
-same-length-3 c = search needs
-
-same-length-4 : tie.Need-same-length-4
-same-length-4 c = search needs
+returns c = root-walked _ _ _ _ _ _ (c .before .before .before .before .walk .ensures)
 
 returns-2 : tie.Need-returns-2
-returns-2 c = search needs
+returns-2 c = root-alone _ _ (c .before .before .first-from .ensures) (denied (c .before .stands .result) _ (c .if1 .left) (c .before .stands .ensures)) _ _
 
 pub whole-spec : {M : Type 1} → statement M
 whole-spec =
@@ -48,7 +39,4 @@ whole-spec =
     same-length
     same-length-2
     returns
-    walk-requires-2
-    same-length-3
-    same-length-4
     returns-2)

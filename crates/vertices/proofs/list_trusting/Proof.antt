@@ -1,15 +1,13 @@
--- `list_sound` meets its contract: counted, then written where there is room. Assumes nothing.
+-- `list_trusting` meets its contract: counted, then written where there is room. Assumes nothing.
 use mathlib.Core.Path.{refl}
 use native.Mathlib.Omega.{arith}
 use borrow.Author.Needs.{needs}
 use denote.Ref.{now}
-use mathlib.Core.Logic.{inr}
 use borrow.Author.Tests.{not-true, not-false}
 use Rattle.tree.proofs.Pass.{said, denied}
-use Rattle.vertices.specs.Listing.{listsOf}
-use Rattle.vertices.proofs.Ways.{short, wrote}
-use Rattle.vertices.proofs.list_sound.Statement.{statement}
-use Rattle.vertices.proofs.list_sound.Tie as tie
+use Rattle.vertices.proofs.Root.{short, wrote}
+use Rattle.vertices.proofs.list_trusting.Statement.{statement}
+use Rattle.vertices.proofs.list_trusting.Tie as tie
 
 slice-aggregate-whole : tie.Need-slice-aggregate-whole
 slice-aggregate-whole c = search needs
@@ -24,15 +22,15 @@ has-room-requires : tie.Need-has-room-requires
 has-room-requires c κs = search needs
 
 returns : tie.Need-returns
-returns c = λ ds ls s.
-    (refl, let a = c .before .before .before .before .before .before .before .before .before .before .args in inr (s, short _ ds ls s _ _ (listsOf (now (a .vertices)) (now (a .levels))) _ _ _ _ (c .before .before .before .before .whole .ensures) (λ r. denied (c .before .has-room .result) _ (not-true _ (c .if1 .taken)) (c .before .has-room .ensures) (r .vertices)), refl))
+returns c =
+    (refl, short _ _ _ _ _ _ _ _ (c .before .before .before .before .whole .ensures) (λ r. denied (c .before .has-room .result) _ (not-true _ (c .if1 .taken)) (c .before .has-room .ensures) (r .vertices)), refl)
 
 has-room-requires-2 : tie.Need-has-room-requires-2
 has-room-requires-2 c κs = search needs
 
 returns-2 : tie.Need-returns-2
-returns-2 c = λ ds ls s.
-    (refl, let a = c .before .before .before .before .before .before .before .before .before .before .before .before .args in inr (s, short _ ds ls s _ _ (listsOf (now (a .vertices)) (now (a .levels))) _ _ _ _ (c .before .before .before .before .before .before .whole .ensures) (λ r. denied (c .before .has-room2 .result) _ (not-true _ (c .if2 .taken)) (c .before .has-room2 .ensures) (r .levels)), refl))
+returns-2 c =
+    (refl, short _ _ _ _ _ _ _ _ (c .before .before .before .before .before .before .whole .ensures) (λ r. denied (c .before .has-room2 .result) _ (not-true _ (c .if2 .taken)) (c .before .has-room2 .ensures) (r .levels)), refl)
 
 mul-whole : tie.Need-mul-whole
 mul-whole c = record { fits = omega (arith, (said (c .before .before .before .has-room .result) _ (not-false _ (c .before .before .if1 .left)) (c .before .before .before .has-room .ensures))) }
@@ -65,11 +63,11 @@ same-length-2 : tie.Need-same-length-2
 same-length-2 c = search needs
 
 returns-3 : tie.Need-returns-3
-returns-3 c = let a = c .before .before .before .before .before .before .before .before .before .before .before .before .before .before .before .before .before .before .before .args in λ ds ls s.
-    (s, wrote _ ds ls s (a .start) _ _ (now (a .vertices)) (now (a .levels)) _ _ _ _ _ _ (c .before .before .before .before .before .before .before .before .before .before .before .before .before .whole .ensures) (c .before .before .before .before .whole2 .ensures) (record { vertices = (said (c .before .before .before .before .before .before .before .before .before .before .has-room .result) _ (not-false _ (c .before .before .before .before .before .before .before .before .before .if1 .left)) (c .before .before .before .before .before .before .before .before .before .before .has-room .ensures)); levels = (said (c .before .before .before .before .before .before .before .before .has-room2 .result) _ (not-false _ (c .before .before .before .before .before .before .before .if2 .left)) (c .before .before .before .before .before .before .before .before .has-room2 .ensures)) }))
+returns-3 c = let a = c .before .before .before .before .before .before .before .before .before .before .before .before .before .before .before .before .before .before .before .args in
+    wrote _ (a .start) _ _ (now (a .vertices)) (now (a .levels)) _ _ _ _ _ _ (c .before .before .before .before .before .before .before .before .before .before .before .before .before .whole .ensures) (c .before .before .before .before .whole2 .ensures) (record { vertices = said (c .before .before .before .before .before .before .before .before .before .before .has-room .result) _ (not-false _ (c .before .before .before .before .before .before .before .before .before .if1 .left)) (c .before .before .before .before .before .before .before .before .before .before .has-room .ensures); levels = said (c .before .before .before .before .before .before .before .before .has-room2 .result) _ (not-false _ (c .before .before .before .before .before .before .before .if2 .left)) (c .before .before .before .before .before .before .before .before .has-room2 .ensures) })
 
-pub list-sound-spec : {M : Type 1} → statement M
-list-sound-spec =
+pub list-trusting-spec : {M : Type 1} → statement M
+list-trusting-spec =
     tie.close
     (tie.spec
     slice-aggregate-whole

@@ -1,0 +1,178 @@
+-- The walk over a sound tree finds its vertices: so the list of one who trusts is the list. Assumes nothing.
+use Prim.Native.Nat.{ℕ, zero, suc, _+_, _*_, _-_, _^_, _≤_, _<_}
+use mathlib.Core.Path.{_≡_, refl, sym, _∙_, ap, subst}
+use mathlib.Core.Bool.{Bool, true, false, true≢false}
+use mathlib.Core.Logic.{inr}
+use mathlib.Core.List.{List, [], _∷_, _++_}
+use native.Mathlib.Nat.{add-mul, mul-assoc, mul-comm, pow-suc}
+use native.Mathlib.Decide.{decLt}
+use native.Mathlib.Omega.{arith}
+use lib.Dec.{leb, ltb}
+use lib.Ieee.{Float}
+use lib.ListN.{length}
+use borrow.Author.Tests.{ltb-true, lt-ltb, leb-true, le-leb}
+use Rattle.morton.specs.Level.{deepest, limit, Cell, level}
+use Rattle.morton.proofs.Cells.{child-cell}
+use Rattle.morton.proofs.Levels.{and-true, cell-lt, eight-mono}
+use Rattle.tree.specs.Tree.{Tree, In, Sound, treeOf}
+use Rattle.tree.proofs.Pass.{said}
+use Rattle.geometry.specs.Listing.{Listed}
+use Rattle.vertices.specs.declared.ListAnswer.{ListAnswer}
+use Rattle.vertices.specs.declared.ListAnswer.the-variants as list
+use Rattle.vertices.specs.Walk.{splitAt, entry, some, Spot, inTurn, lowCorner, divided, meets, ending, walked, spotsOf, verticesOf, levelsOf}
+use Rattle.vertices.specs.Listing.{Lists, Room, Wrote, Short, ListSays, TrustingSays}
+use Rattle.vertices.proofs.Blocks.{some-if, some-is, all-if, all-is, walked-end, walked-on, ending-one, ending-none, vertices-append, levels-append, vertices-length}
+use Rattle.vertices.proofs.Sound.{SoundKeys, SplitAt, Fresh, Block, block-of, fresh-child}
+use Rattle.vertices.proofs.Spot.{Meets, corner-next}
+use Rattle.vertices.proofs.Range.{Ranged, joined, ranged-empty, none-here, one-here, all-listed}
+
+-- ---- the low corners of a cell's children
+
+corner-add : (l c q : ℕ) → lowCorner l (c + q) ≡ lowCorner l c + q * 8 ^ (deepest - l)
+unfolding lowCorner
+corner-add l c q = add-mul c q (8 ^ (deepest - l))
+
+module _ (l c : ℕ) (h : l < deepest) where
+  corner-first : lowCorner (suc l) (8 * c) ≡ lowCorner l c
+  unfolding lowCorner
+  corner-first =
+      ap (λ (n : ℕ). n * 8 ^ (deepest - suc l)) (mul-comm 8 c) ∙ mul-assoc c 8 (8 ^ (deepest - suc l)) ∙ ap (λ (n : ℕ). c * n) (sym unit)
+    where
+      unit : 8 ^ (deepest - l) ≡ 8 * 8 ^ (deepest - suc l)
+      unit = let s : deepest - l ≡ suc (deepest - suc l) = omega arith in ap (λ (n : ℕ). 8 ^ n) s ∙ omega (arith, pow-suc 8 (deepest - suc l))
+
+  corner-le : (q : ℕ) → lowCorner l c ≤ lowCorner (suc l) (8 * c + q)
+  corner-le q = omega (arith, corner-add (suc l) (8 * c) q, corner-first)
+
+corner-last : (l c : ℕ) → l < deepest → lowCorner (suc l) (8 * c + 8) ≡ lowCorner l (c + 1)
+corner-last l c h = ap (lowCorner (suc l)) (omega arith) ∙ corner-first l (c + 1) h
+
+-- ---- the walk
+
+module _ (ks : List ℕ) where
+  meets-is : (l c : ℕ) → meets ks l c ≡ true → Meets ks l c
+  unfolding meets
+  meets-is l c e =
+      let b = and-true _ _ e in
+      let s = some-is (λ o. leb (8 ^ l) (entry ks l c o)) 8 (b .1) in
+      record {
+        full = λ o ho. ltb-true 0 _ (all-is (λ o. ltb 0 (entry ks l c o)) 8 (b .0) o ho);
+        fine = (s .0, s .1, leb-true (8 ^ l) _ (s .2));
+      }
+
+  meets-if : (l c : ℕ) → Meets ks l c → meets ks l c ≡ true
+  unfolding meets
+  meets-if l c m =
+      rw (all-if (λ o. ltb 0 (entry ks l c o)) 8 (λ o ho. lt-ltb 0 _ (m .full o ho)))
+      (some-if (λ o. leb (8 ^ l) (entry ks l c o)) 8 (m .fine .0) (m .fine .1) (le-leb (8 ^ l) _ (m .fine .2)))
+
+  -- the vertices of some of the walk lie from lo up to hi
+  abbrev Spots : ℕ → ℕ → List Spot → Type 0
+  Spots lo hi ss = Ranged ks lo hi (verticesOf ss) (levelsOf ss)
+
+  module _ (t : SoundKeys ks) where
+    -- a divided cell is above the limit
+    divided-lt : (l c : ℕ) → Fresh ks l c → divided ks l c ≡ true → l < limit
+    unfolding divided
+    divided-lt l c f d =
+        let o = some-is (λ o. splitAt ks l (entry ks l c o)) 8 d in
+        let s : SplitAt ks l (entry ks l c (o .0)) = said _ _ (o .2) (block-of ks t l c f .marks (o .0) (o .1)) in
+        let k : 8 * entry ks l c (o .0) < 2 * 8 ^ limit = cell-lt (level (8 * entry ks l c (o .0))) limit _ (t .sound .cells _ (s .split) .0) (t .sound .cells _ (s .split) .1) in
+        elim (decLt l limit) [
+          | yes y ↦ y
+          | no n ↦ absurd (omega (arith, s .deep, k, eight-mono {i = limit} {j = l} (omega arith)))
+        ]
+
+    module _ (l c : ℕ) (hl : l ≤ limit) (cc : Cell l c) (f : Fresh ks l c) where
+      spots-end : divided ks l c ≡ false → Spots (lowCorner l c) (lowCorner l (c + 1)) (ending ks l c)
+      unfolding divided verticesOf levelsOf
+      spots-end d = go (meets ks l c) refl
+        where
+          still : (o : ℕ) → o < 8 → splitAt ks l (entry ks l c o) ≡ false
+          still o ho = no (splitAt ks l (entry ks l c o)) refl
+            where
+              no : (r : Bool) → splitAt ks l (entry ks l c o) ≡ r → splitAt ks l (entry ks l c o) ≡ false
+              no true e = absurd (true≢false (sym (some-if (λ o. splitAt ks l (entry ks l c o)) 8 o ho e) ∙ d))
+              no false e = e
+
+          go : (r : Bool) → meets ks l c ≡ r → Spots (lowCorner l c) (lowCorner l (c + 1)) (ending ks l c)
+          go true e =
+              subst (Spots (lowCorner l c) (lowCorner l (c + 1))) (sym (ending-one ks l c e))
+              (one-here ks t l c hl cc (block-of ks t l c f) still (meets-is l c e))
+          go false e =
+              subst (Spots (lowCorner l c) (lowCorner l (c + 1))) (sym (ending-none ks l c e))
+              (none-here ks t l c hl cc (block-of ks t l c f) still (λ m. true≢false (sym (meets-if l c m) ∙ e)))
+
+    -- one range after another
+    spots-join : (l c n : ℕ) (ss ts : List Spot) → l < deepest → Spots (lowCorner l c) (lowCorner (suc l) (8 * c + n)) ss
+        → Spots (lowCorner (suc l) (8 * c + n)) (lowCorner (suc l) (8 * c + n + 1)) ts → Spots (lowCorner l c) (lowCorner (suc l) (8 * c + suc n)) (ss ++ ts)
+    spots-join l c n ss ts hl a b =
+        let e : 8 * c + n + 1 ≡ 8 * c + suc n = omega arith in
+        subst (λ (k : ℕ). Spots (lowCorner l c) (lowCorner (suc l) k) (ss ++ ts)) e
+        (rw (vertices-append ss ts, levels-append ss ts)
+        (joined ks _ _ _ (verticesOf ss) (levelsOf ss) (verticesOf ts) (levelsOf ts) a b (corner-le l c hl n) (omega (arith, corner-next (suc l) (8 * c + n)))))
+
+    spots-turn : (l c n : ℕ) (g : ℕ → List Spot) → l < deepest → n ≤ 8
+        → ((q : ℕ) → q < 8 → Spots (lowCorner (suc l) (8 * c + q)) (lowCorner (suc l) (8 * c + q + 1)) (g q))
+        → Spots (lowCorner l c) (lowCorner (suc l) (8 * c + n)) (inTurn g n)
+    unfolding inTurn verticesOf levelsOf
+    spots-turn l c zero g hl hn each =
+        let e : lowCorner l c ≡ lowCorner (suc l) (8 * c + 0) = sym (corner-first l c hl) ∙ ap (lowCorner (suc l)) (omega arith) in
+        subst (λ (k : ℕ). Ranged ks (lowCorner l c) k [] []) e (ranged-empty ks (lowCorner l c))
+    spots-turn l c (suc n) g hl hn each = spots-join l c n (inTurn g n) (g n) hl (spots-turn l c n g hl (omega arith) each) (each n (omega arith))
+
+    spots-walked : (f l c : ℕ) → l + f ≡ limit → Cell l c → Fresh ks l c → Spots (lowCorner l c) (lowCorner l (c + 1)) (walked f ks l c)
+    spots-walked zero l c e cc fr = go (divided ks l c) refl
+      where
+        go : (r : Bool) → divided ks l c ≡ r → Spots (lowCorner l c) (lowCorner l (c + 1)) (walked 0 ks l c)
+        go true d = absurd (omega (arith, divided-lt l c fr d))
+        go false d = subst (Spots (lowCorner l c) (lowCorner l (c + 1))) (sym (walked-end ks l c 0 d)) (spots-end l c (omega arith) cc fr d)
+    spots-walked (suc f) l c e cc fr =
+        go (divided ks l c) refl
+        (λ d q hq. spots-walked f (suc l) (8 * c + q) (omega arith) (child-cell l c q cc (omega arith)) (fresh-child ks l c q hq d))
+      where
+        go : (r : Bool) → divided ks l c ≡ r
+            → (divided ks l c ≡ true → (q : ℕ) → q < 8 → Spots (lowCorner (suc l) (8 * c + q)) (lowCorner (suc l) (8 * c + q + 1)) (walked f ks (suc l) (8 * c + q)))
+            → Spots (lowCorner l c) (lowCorner l (c + 1)) (walked (suc f) ks l c)
+        go true d each =
+            subst (Spots (lowCorner l c) (lowCorner l (c + 1))) (sym (walked-on ks l c f d))
+            (subst (λ (k : ℕ). Spots (lowCorner l c) k (inTurn (λ q. walked f ks (suc l) (8 * c + q)) 8)) (corner-last l c (omega arith))
+            (spots-turn l c 8 (λ q. walked f ks (suc l) (8 * c + q)) (omega arith) (omega arith) (each d)))
+        go false d each = subst (Spots (lowCorner l c) (lowCorner l (c + 1))) (sym (walked-end ks l c (suc f) d)) (spots-end l c (omega arith) cc fr d)
+
+-- ---- the whole tree
+
+pub spots-listed : (t : Tree) → Sound t → Listed (t .leaves) (verticesOf (spotsOf (t .keys))) (levelsOf (spotsOf (t .keys)))
+unfolding spotsOf
+spots-listed t s =
+    all-listed (t .keys) (t .distances) (t .leaves) s (verticesOf (walked limit (t .keys) 0 1)) (levelsOf (walked limit (t .keys) 0 1))
+    (spots-walked (t .keys) (record { distances = t .distances; leaves = t .leaves; sound = s }) limit 0 1 (omega arith)
+    (record { low = omega arith; high = omega arith }) (λ z. absurd (omega arith)))
+
+-- of a sound tree the list of one who trusts is the list
+pub trusting-list : (t : Tree) → Sound t → (start : ℕ) (was left : Lists) (r : ListAnswer) → TrustingSays (t .keys) start was left r → ListSays t start was left r
+trusting-list t s start was left (list.Count n) a = (
+  s,
+  record {
+    vs = verticesOf (spotsOf (t .keys));
+    ls = levelsOf (spotsOf (t .keys));
+    listed = spots-listed t s;
+    count = a .0 ∙ sym (vertices-length (spotsOf (t .keys)));
+    room = a .1;
+    vertices-are = ap (λ (x : Lists). x .vertices) (a .2);
+    levels-are = ap (λ (x : Lists). x .levels) (a .2);
+  },
+)
+trusting-list t s start was left (list.Refused k) a = (
+  a .0,
+  inr (
+    s,
+    record {
+      vs = verticesOf (spotsOf (t .keys));
+      ls = levelsOf (spotsOf (t .keys));
+      listed = spots-listed t s;
+      no-room = λ r. a .1 (subst (λ (n : ℕ). Room start n was) (vertices-length (spotsOf (t .keys))) r);
+    },
+    a .2,
+  ),
+)
