@@ -1,0 +1,2 @@
+#define NAN __builtin_nanf("")
+float sqrtf(float x);

@@ -1,0 +1,4 @@
+typedef struct file FILE;
+extern FILE *stderr;
+int fprintf(FILE *file, const char *format, ...);
+int printf(const char *format, ...);
