@@ -1,9 +1,9 @@
 //! One call that reads a tree: ours beside the model of document 01. After each, every out parameter and every place of a lent
 //! table must be the model's, the tree's tables as they were, and so what lies around them.
 
-use crate::lent::Fenced;
 use mittenhelm::raw::{mittenhelm_dual_cell, mittenhelm_list, mittenhelm_look_up, mittenhelm_slab, mittenhelm_sound};
 use oracle_answers::inputs::Random;
+use oracle_answers::lent::{one_nan, Fenced};
 use oracle_answers::model::reading::{self, DualCell, Lookup, Reading, Tables};
 use oracle_answers::model::{level, Answer};
 use std::fmt::{Debug, Display};
@@ -216,15 +216,6 @@ impl Given {
             leaves.len(),
             &leaves[..some]
         )
-    }
-}
-
-/// No promise settles the bits of a NaN: one stands for all.
-fn one_nan(bits: u32) -> u32 {
-    if f32::from_bits(bits).is_nan() {
-        f32::NAN.to_bits()
-    } else {
-        bits
     }
 }
 

@@ -4,26 +4,12 @@ use crate::calls::{Given, Seen};
 use oracle_answers::inputs::{first_cell, last_cell, powers, Random};
 use oracle_answers::model::reading::Lookup;
 use oracle_answers::model::{level, DEEPEST};
+use oracle_answers::questions::{self, below};
 use oracle_answers::trees::{grown, Growth, GROWTHS};
-
-/// A descendant of a cell, at a level that is at least its own.
-fn below(key: u64, at: u32, random: &mut Random) -> u64 {
-    let deeper = 3 * (at - level(key));
-    key << deeper | random.bits() & ((1 << deeper) - 1)
-}
 
 /// A number that asks for something in the tree, or beside it.
 fn asked(given: &Given, random: &mut Random) -> u64 {
-    let place = random.below(given.tables.keys.len() as u64) as usize;
-    let key = given.tables.keys[place];
-    match random.below(8) {
-        0 | 1 => key,
-        2 => below(key, (level(key) + 1 + random.below(3) as u32).min(DEEPEST), random),
-        3 | 4 => below(key, level(key) + random.below((DEEPEST - level(key) + 1) as u64) as u32, random),
-        5 => key.wrapping_add(random.below(9)).wrapping_sub(4),
-        6 => random.cell(),
-        _ => random.number(),
-    }
+    questions::asked(&given.tables, random)
 }
 
 /// The number of keys tried is that of the climb, which the levels settle.
