@@ -9,13 +9,63 @@ use oracle_answers::broken::{change, BREAKS};
 use oracle_answers::fields::{field, KINDS};
 use oracle_answers::inputs::Random;
 use oracle_answers::lent::{one_nan, Fenced};
-use oracle_answers::model::reading::{Lookup, Reading, Tables};
-use oracle_answers::model::{self, level};
+use oracle_answers::model::reading::{DualCell, Lookup, Reading, Tables};
+use oracle_answers::model::{self, level, Answer};
 use oracle_answers::questions::{asked, great_starts, lengths};
 use oracle_answers::trees::{grown, small, Tree, GROWTHS};
 
 /// How often a case makes its call on its tree.
 const TIMES: u32 = 20;
+
+/// The places for what a lookup finds.
+struct Found {
+    key: Out<u64>,
+    distance: Out<u32>,
+    tried: Out<u32>,
+}
+
+impl Found {
+    fn new() -> Self {
+        Found { key: Out::new(), distance: Out::new(), tried: Out::new() }
+    }
+
+    /// Where nothing is found the key is 0, and the distance isn't handed out.
+    fn differences(mut self, answer: Option<Lookup>) -> [Option<String>; 3] {
+        let (key, distance, tried) = match answer {
+            Some(Lookup::Found { key, distance, tried }) => (Some([key]), Some([one_nan(distance)]), Some([tried])),
+            Some(Lookup::Nothing { tried }) => (Some([0]), None, Some([tried])),
+            None => (None, None, None),
+        };
+        self.distance.settle(one_nan);
+        [
+            self.key.difference(key, "key found"),
+            self.distance.difference(distance, "distance found"),
+            self.tried.difference(tried, "number tried"),
+        ]
+    }
+}
+
+/// The places for a dual cell.
+struct Cell {
+    keys: Out<u64, 8>,
+    distances: Out<u32, 8>,
+    tried: Out<u32>,
+}
+
+impl Cell {
+    fn new() -> Self {
+        Cell { keys: Out::new(), distances: Out::new(), tried: Out::new() }
+    }
+
+    fn differences(mut self, answer: Option<DualCell>) -> [Option<String>; 3] {
+        self.distances.settle(one_nan);
+        [
+            self.keys.difference(answer.map(|cell| cell.keys), "eight keys"),
+            self.distances.difference(answer.map(|cell| cell.distances.map(one_nan)), "eight distances"),
+            self.tried.difference(answer.map(|cell| [cell.tried]), "number tried"),
+        ]
+    }
+}
 
 /// A tree's three tables as C takes them: each a pointer and a length.
 type Parts = (*const u64, usize, *const f32, usize, *const u64, usize);
@@ -82,24 +132,30 @@ impl Given {
     }
 
     fn look_up(&self, case: &mut Case) -> Checked {
-        let key = self.some_key(&mut case.random);
-        let (mut found, mut distance, mut tried) = (Out::<u64>::new(), Out::<u32>::new(), Out::<u32>::new());
+        let (key, mut found) = (self.some_key(&mut case.random), Found::new());
         let (keys, k, distances, d, leaves, l) = self.parts();
+        let Found { key: place, distance, tried } = &mut found;
         let said =
-            unsafe { mittenhelm_look_up(keys, k, distances, d, leaves, l, key, found.place(), distance.float(), tried.place()) };
-        let expected = self.reading.look_up(key);
-        let (way, handed) = match expected {
-            Ok(Lookup::Found { key, distance, tried }) => (Ok("found"), (Some(key), Some(distance), Some(tried))),
-            Ok(Lookup::Nothing { tried }) => (Ok("nothing"), (Some(0), None, Some(tried))),
-            Err(number) => (Err(number), (None, None, None)),
-        };
-        distance.settle(one_nan);
-        let differences = self.with_tables([
-            found.difference(handed.0.map(|key| [key]), "key found"),
-            distance.difference(handed.1.map(|bits| [one_nan(bits)]), "distance found"),
-            tried.difference(handed.2.map(|tried| [tried]), "number tried"),
-        ]);
-        case.judge("look_up", said, way, &differences, || format!("{}, {key:#x}", self.told()))
+            unsafe { mittenhelm_look_up(keys, k, distances, d, leaves, l, key, place.place(), distance.float(), tried.place()) };
+        self.judge_look_up(case, "look_up", key, said, found, self.reading.look_up(key))
+    }
+
+    /// Judges a call that looks a key up in the tree.
+    fn judge_look_up(
+        &self,
+        case: &mut Case,
+        name: &'static str,
+        key: u64,
+        said: u32,
+        found: Found,
+        expected: Answer<Lookup>,
+    ) -> Checked {
+        let way = expected.map(|answer| match answer {
+            Lookup::Found { .. } => "found",
+            Lookup::Nothing { .. } => "nothing",
+        });
+        let differences = self.with_tables(found.differences(expected.ok()));
+        case.judge(name, said, way, &differences, || format!("{}, {key:#x}", self.told()))
     }
 
     /// A start place, and lengths of the vertex table and the level table.
@@ -171,34 +227,27 @@ impl Given {
     }
 
     fn dual_cell(&self, case: &mut Case) -> Checked {
-        let (vertex, level) = self.some_vertex(&mut case.random);
-        let (mut cell_keys, mut cell_distances, mut tried) = (Out::<u64, 8>::new(), Out::<u32, 8>::new(), Out::<u32>::new());
+        let ((vertex, level), mut cell) = (self.some_vertex(&mut case.random), Cell::new());
         let (keys, k, distances, d, leaves, l) = self.parts();
+        let Cell { keys: eight, distances: floats, tried } = &mut cell;
         let said = unsafe {
-            mittenhelm_dual_cell(
-                keys,
-                k,
-                distances,
-                d,
-                leaves,
-                l,
-                vertex,
-                level,
-                cell_keys.all(),
-                cell_distances.floats(),
-                tried.place(),
-            )
+            mittenhelm_dual_cell(keys, k, distances, d, leaves, l, vertex, level, eight.all(), floats.floats(), tried.place())
         };
-        let expected = self.reading.dual_cell(vertex, level);
-        let cell = expected.ok();
-        cell_distances.settle(one_nan);
-        let differences = self.with_tables([
-            cell_keys.difference(cell.map(|cell| cell.keys), "eight keys"),
-            cell_distances.difference(cell.map(|cell| cell.distances.map(one_nan)), "eight distances"),
-            tried.difference(cell.map(|cell| [cell.tried]), "number tried"),
-        ]);
-        let arguments = || format!("{}, {vertex:#x}, {level}", self.told());
-        case.judge("dual_cell", said, expected.map(|_| ACCEPTED), &differences, arguments)
+        self.judge_dual_cell(case, "dual_cell", (vertex, level), said, cell, self.reading.dual_cell(vertex, level))
+    }
+
+    /// Judges a call that gives a dual cell in the tree.
+    fn judge_dual_cell(
+        &self,
+        case: &mut Case,
+        name: &'static str,
+        (vertex, level): (u64, u32),
+        said: u32,
+        cell: Cell,
+        expected: Answer<DualCell>,
+    ) -> Checked {
+        let differences = self.with_tables(cell.differences(expected.ok()));
+        case.judge(name, said, expected.map(|_| ACCEPTED), &differences, || format!("{}, {vertex:#x}, {level}", self.told()))
     }
 
     /// Each call once.
