@@ -1,5 +1,5 @@
-//! Start and distance, over states and tables of all kinds: noise, what fits, what nearly fits, and builds that are driven on while
-//! their state and tables change under them.
+//! Start and distance, over states and tables of all kinds: noise, what fits, what nearly fits, and builds that are driven on
+//! while their state and tables change under them.
 
 use crate::calls::ACCEPTED;
 use crate::case::{number, or_edge, told, Case, Checked, Difference, Out};
@@ -275,8 +275,8 @@ fn lengths_of_build(random: &mut Random) -> [usize; 4] {
     }
 }
 
-/// Drives a build over a field for many steps. On the way it is tried with things changed, some of which stay so. Where it finishes,
-/// its tree is read.
+/// Drives a build over a field for many steps. On the way it is tried with things changed, some of which stay so. Where it
+/// finishes, its tree is read.
 fn drive(case: &mut Case) -> Checked {
     let some = case.random.below(16) as u32;
     let bound = or_edge(some, &mut case.random);

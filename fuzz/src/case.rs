@@ -43,7 +43,7 @@ impl<'a> Case<'a> {
         Case { random: Random::of(seed, number), tallies }
     }
 
-    /// Judges a call by the number that it returned and by what differs in what it handed out and was lent, and counts its outcome.
+    /// Judges a call by the number that it returned and by what differs in what it handed out and was lent; counts its outcome.
     pub fn judge(
         &mut self,
         name: &'static str,

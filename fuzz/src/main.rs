@@ -1,5 +1,5 @@
-//! Feeds every call of include/mittenhelm.h with states, tables, keys, floats and lengths of all kinds, and compares every answer and
-//! every place of lent memory with the model of document 01.
+//! Feeds every call of include/mittenhelm.h with states, tables, keys, floats and lengths of all kinds, and compares every answer
+//! and every place of lent memory with the model of document 01.
 
 mod builds;
 mod calls;
@@ -29,7 +29,7 @@ Exit status: 0 no difference, 1 a difference, or not complete, 2 bad usage.";
 struct Options {
     seed: u64,
     first: u64,
-    cases: Option<u64>,
+    cases: usize,
     time: Option<Duration>,
     complete: bool,
 }
@@ -40,7 +40,7 @@ fn from_clock() -> u64 {
 }
 
 fn parse(words: impl Iterator<Item = String>) -> Option<Options> {
-    let mut options = Options { seed: from_clock(), first: 0, cases: None, time: None, complete: false };
+    let mut options = Options { seed: from_clock(), first: 0, cases: usize::MAX, time: None, complete: false };
     let (mut words, mut bounds) = (words, 0);
     while let Some(word) = words.next() {
         if word == "--complete" {
@@ -50,9 +50,9 @@ fn parse(words: impl Iterator<Item = String>) -> Option<Options> {
         let number: u64 = words.next()?.parse().ok()?;
         match word.as_str() {
             "--seed" => options.seed = number,
-            "--cases" => options.cases = Some(number),
+            "--cases" => options.cases = usize::try_from(number).ok()?,
             "--seconds" => options.time = Some(Duration::from_secs(number)),
-            "--case" => (options.first, options.cases) = (number, Some(1)),
+            "--case" => (options.first, options.cases) = (number, 1),
             _ => return None,
         }
         bounds += (word != "--seed") as u32;
@@ -91,8 +91,7 @@ fn main() -> ExitCode {
 /// Runs case after case, up to the first difference, which is told in a line that reproduces it.
 fn run(options: &Options, tallies: &mut [Tally]) -> Option<String> {
     let begun = Instant::now();
-    let last = options.cases.map_or(u64::MAX, |cases| options.first.saturating_add(cases));
-    for number in options.first..last {
+    for number in (options.first..=u64::MAX).take(options.cases) {
         if signals::was_interrupted() || matches!(options.time, Some(time) if begun.elapsed() >= time) {
             break;
         }

@@ -50,7 +50,7 @@ fn a_seed_settles_the_run() {
 
 #[test]
 fn a_case_alone() {
-    let summary = printed(&["--seed", "7", "--case", "18446744073709551613"]);
+    let summary = printed(&["--seed", "7", "--case", "18446744073709551615"]);
     assert!(summary.starts_with("seed 7, 1 cases\n"), "{summary}");
 }
 

@@ -1,5 +1,5 @@
-//! The header as a C and as a C++ compiler read it, with the archive linked to the programs of tests/c: one that uses every function,
-//! and one that takes a part from its distance field to its dual cells, whose totals are the model's.
+//! The header as a C and as a C++ compiler read it, with the archive linked to the programs of tests/c: one that uses every
+//! function, and one that takes a part from its distance field to its dual cells, whose totals are the model's.
 
 use oracle_answers::model::reading::{slab, Reading};
 use oracle_answers::trees::Tree;

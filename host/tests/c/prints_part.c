@@ -1,5 +1,5 @@
-/* A part from its distance field to its dual cells, slab by slab, as a printer's firmware does it: static tables, no heap. Written in
- * the language that C and C++ share. It prints its totals, and exits 0 if all that it was given is as the header says. */
+/* A part from its distance field to its dual cells and their slabs, as a printer's firmware does it: static tables, no heap. Written
+ * in the language that C and C++ share. It prints its totals, and exits 0 if all that it was given is as the header says. */
 #include "expect.h"
 #include "mittenhelm.h"
 
