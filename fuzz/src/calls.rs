@@ -17,7 +17,7 @@ pub struct Call {
 /// The way of a call that accepts in one way only.
 pub const ACCEPTED: &str = "accepted";
 
-/// The ways of a call that answers by yes or no.
+/// The way of a call that answers by yes or no.
 pub fn yes_or_no(yes: bool) -> &'static str {
     YES_OR_NO[!yes as usize]
 }
