@@ -1,8 +1,8 @@
 //! One call of start or distance: ours beside the model of document 01. After each, all eight words of the state, every place of
 //! every table and every out parameter must be the model's, and what lies around them as it was.
 
-use crate::lent::Fenced;
 use mittenhelm::raw::{mittenhelm_distance, mittenhelm_start};
+use oracle_answers::lent::Fenced;
 use oracle_answers::model::build::{self, Request, Tables};
 use oracle_answers::model::Answer;
 

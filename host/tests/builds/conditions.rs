@@ -2,8 +2,7 @@
 //! document 01 itself, beside the model's.
 
 use crate::calls::{Pair, Seen};
-use crate::fields::garbage;
-use crate::forged::Forged;
+use oracle_answers::forged::{garbage, Forged};
 use oracle_answers::inputs::{first_cell, last_cell};
 
 /// A state of so many nodes and leaves; every place of the queue holds 64, a cell of every grid.

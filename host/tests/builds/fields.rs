@@ -4,6 +4,7 @@
 use crate::calls::{bits, Pair, Seen};
 use oracle_answers::compares_with_text;
 use oracle_answers::fields::{field, Kind};
+use oracle_answers::forged::garbage;
 use oracle_answers::inputs::Random;
 use oracle_answers::model::{build::Tables, level};
 use oracle_answers::trees::{unreached, Field, Tree};
@@ -144,21 +145,6 @@ impl Case {
             compared.differing += (theirs.leaves != self.tree.leaves) as u64;
         }
     }
-}
-
-/// Tables in which each place holds something else, and nothing that a build writes.
-pub fn garbage(lengths: [usize; 4]) -> Tables {
-    let mut tables = Tables::of(lengths);
-    let tables_of_keys = [&mut tables.keys, &mut tables.leaves, &mut tables.queue];
-    for (number, table) in tables_of_keys.into_iter().enumerate() {
-        for (place, key) in table.iter_mut().enumerate() {
-            *key = 0xbad0_0000_0000_0000 + ((number as u64) << 32) + place as u64;
-        }
-    }
-    for (place, distance) in tables.distances.iter_mut().enumerate() {
-        *distance = 0xffab_0000 + place as u32;
-    }
-    tables
 }
 
 /// Lengths for a tree: exact ones, greater ones, one too short, and any.

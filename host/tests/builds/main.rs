@@ -9,6 +9,4 @@ mod conditions;
 mod examples;
 mod fields;
 mod forged;
-#[path = "../lent/mod.rs"]
-mod lent;
 mod rooms;

@@ -1,18 +1,8 @@
 /* Uses every function of the header, in the language that C and C++ share. Exits 0 if each answers as document 01 says. */
+#include "expect.h"
 #include "mittenhelm.h"
 
 #include <math.h>
-#include <stdio.h>
-
-static int wrong = 0;
-
-static void expect(bool holds, const char *what)
-{
-    if (!holds) {
-        fprintf(stderr, "wrong: %s\n", what);
-        wrong = 1;
-    }
-}
 
 /* The tables of a build. */
 static uint64_t keys[73], leaves[64], queue[64];

@@ -1,14 +1,15 @@
 //! One call that reads a tree: ours beside the model of document 01. After each, every out parameter and every place of a lent
 //! table must be the model's, the tree's tables as they were, and so what lies around them.
 
-use crate::lent::Fenced;
 use mittenhelm::raw::{
     mittenhelm_dual_cell, mittenhelm_dual_cell_trusting, mittenhelm_list, mittenhelm_look_up, mittenhelm_look_up_trusting,
     mittenhelm_slab, mittenhelm_sound,
 };
 use oracle_answers::inputs::Random;
+use oracle_answers::lent::{one_nan, Fenced};
 use oracle_answers::model::reading::{self, DualCell, Lookup, Reading, Tables};
-use oracle_answers::model::{level, Answer, DEEPEST};
+use oracle_answers::model::{level, Answer};
+use oracle_answers::questions;
 use std::fmt::{Debug, Display};
 
 /// What out parameters hold before a call.
@@ -135,12 +136,6 @@ macro_rules! with_tree {
     }};
 }
 
-/// A descendant of a number, at a level that is at least its own.
-pub fn below(key: u64, at: u32, random: &mut Random) -> u64 {
-    let deeper = 3 * (at - level(key));
-    key << deeper | random.bits() & ((1 << deeper) - 1)
-}
-
 impl Given {
     pub fn new(tables: Tables) -> Self {
         Given {
@@ -167,16 +162,7 @@ impl Given {
 
     /// A number that asks for something in the tree, or beside it.
     pub fn asked(&self, random: &mut Random) -> u64 {
-        let keys = &self.tables.keys;
-        let key = if keys.is_empty() { random.number() } else { keys[random.below(keys.len() as u64) as usize] };
-        match random.below(8) {
-            0 | 1 => key,
-            2 => below(key, (level(key) + 1 + random.below(3) as u32).min(DEEPEST), random),
-            3 | 4 => below(key, level(key) + random.below((DEEPEST - level(key) + 1) as u64) as u32, random),
-            5 => key.wrapping_add(random.below(9)).wrapping_sub(4),
-            6 => random.cell(),
-            _ => random.number(),
-        }
+        questions::asked(&self.tables, random)
     }
 
     /// Both lookups, of which the trusting one answers an unsound tree too.
@@ -324,15 +310,6 @@ impl Given {
             leaves.len(),
             &leaves[..some]
         )
-    }
-}
-
-/// No promise settles the bits of a NaN: one stands for all.
-fn one_nan(bits: u32) -> u32 {
-    if f32::from_bits(bits).is_nan() {
-        f32::NAN.to_bits()
-    } else {
-        bits
     }
 }
 

@@ -2,22 +2,8 @@
 
 use crate::calls::{Given, Seen};
 use oracle_answers::inputs::Random;
+use oracle_answers::questions::{great_starts, lengths};
 use oracle_answers::trees::{grown, Growth, GROWTHS};
-
-/// Start places so great that a sum with the number of vertices runs over, or nearly.
-fn great_starts(count: usize) -> [usize; 7] {
-    let to_zero = usize::MAX - count.max(1) + 1;
-    [usize::MAX, usize::MAX - 1, to_zero, to_zero - 1, 1 << 63, 1 << 32, 1 << 16]
-}
-
-/// Lengths around a start place and around the end of the list.
-fn lengths(start: usize, count: usize) -> Vec<usize> {
-    let mut lengths = vec![0, 1, start, start + 1, start + count / 2, start + count, start + count + 1, start + count + 9];
-    lengths.extend([start, start + count].iter().filter_map(|edge| edge.checked_sub(1)));
-    lengths.sort_unstable();
-    lengths.dedup();
-    lengths
-}
 
 /// Each start of some, and for both tables each length around the edges.
 fn list_around(given: &Given, starts: &[usize], seen: &mut Seen) {

@@ -1,9 +1,10 @@
 //! Lookups of every kind: each level, keys that are there, keys whose ancestor is, and what is no cell key.
 
-use crate::calls::{below, Given, Seen};
+use crate::calls::{Given, Seen};
 use oracle_answers::inputs::{first_cell, last_cell, powers, Random};
 use oracle_answers::model::reading::Lookup;
 use oracle_answers::model::{level, DEEPEST};
+use oracle_answers::questions::below;
 use oracle_answers::trees::{grown, Growth, GROWTHS};
 
 /// The number of keys tried is that of the climb, which the levels settle.

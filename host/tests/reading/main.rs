@@ -9,8 +9,6 @@ mod calls;
 mod cells;
 mod counts;
 mod examples;
-#[path = "../lent/mod.rs"]
-mod lent;
 mod lists;
 mod lookups;
 mod slabs;

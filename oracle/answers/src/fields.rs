@@ -20,11 +20,6 @@ pub fn cell_at(point: [f32; 3]) -> u64 {
     key
 }
 
-/// A number for each key, without a pattern.
-fn noise(seed: u64, key: u64) -> Random {
-    Random::new(Random::new(seed ^ key.rotate_left(32)).bits())
-}
-
 fn by_key(distance: impl Fn(u64) -> f32 + 'static) -> Box<Field> {
     Box::new(move |point| distance(cell_at(point)))
 }
@@ -126,7 +121,7 @@ pub fn field(kind: Kind, bound: u32, random: &mut Random) -> Box<Field> {
         Kind::Noise => {
             let (seed, splitting) = (random.bits(), splitting(bound, random));
             by_key(move |key| {
-                let mut noise = noise(seed, key);
+                let mut noise = Random::of(seed, key);
                 let edge = split_edge(model::level(key) as i32);
                 if noise.below(1000) < splitting {
                     edge * noise.fraction()
@@ -139,7 +134,7 @@ pub fn field(kind: Kind, bound: u32, random: &mut Random) -> Box<Field> {
         Kind::Edges => {
             let (seed, splitting) = (random.bits(), splitting(bound, random));
             by_key(move |key| {
-                let mut noise = noise(seed, key);
+                let mut noise = Random::of(seed, key);
                 let [below, edge, above] = around_split_edge(model::level(key) as i32);
                 let distance = if noise.below(1000) >= splitting { above } else { [below, edge][noise.below(2) as usize] };
                 noise.signed(distance)
@@ -149,7 +144,7 @@ pub fn field(kind: Kind, bound: u32, random: &mut Random) -> Box<Field> {
         Kind::Odd => {
             let (seed, splitting) = (random.bits(), splitting(bound, random));
             by_key(move |key| {
-                let mut noise = noise(seed, key);
+                let mut noise = Random::of(seed, key);
                 let level = model::level(key) as i32;
                 let bits = if noise.below(1000) < splitting {
                     [0, 1, noise.below(0x0080_0000) as u32, 0x0080_0000, split_edge(level + 1).to_bits()][noise.below(5) as usize]

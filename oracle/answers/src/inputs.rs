@@ -10,6 +10,16 @@ impl Random {
         Random(seed)
     }
 
+    /// Numbers of their own for each key, without a pattern from one to the next.
+    pub fn of(seed: u64, key: u64) -> Self {
+        Random(Random(seed ^ key.rotate_left(32)).bits())
+    }
+
+    /// One of a list.
+    pub fn one_of<T: Copy>(&mut self, list: &[T]) -> T {
+        list[self.below(list.len() as u64) as usize]
+    }
+
     pub fn bits(&mut self) -> u64 {
         self.0 = self.0.wrapping_add(0x9e37_79b9_7f4a_7c15);
         let mut z = self.0;

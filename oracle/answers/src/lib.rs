@@ -1,14 +1,18 @@
 //! What the oracle answers to each call: both builds of the published text, and a plain model of document 01 for what the
 //! text has no counterpart to (refusals, states and lent tables, whether a number is a cell key or an inner vertex) or that it has no
-//! function of its own for (the split rule).
+//! function of its own for (the split rule). And what the tests and the fuzz ask with: inputs, trees, forged states, lent memory.
 
 pub use oracle_integer as integer;
 pub use oracle_published as published;
 
+pub mod broken;
 pub mod edges;
 pub mod fields;
+pub mod forged;
 pub mod inputs;
+pub mod lent;
 pub mod model;
+pub mod questions;
 pub mod sample;
 pub mod trees;
 

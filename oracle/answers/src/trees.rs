@@ -157,6 +157,13 @@ pub fn grown(growth: Growth, splits: usize, deepest: u32, random: &mut Random) -
     Tables { keys, distances, leaves }
 }
 
+/// A tree of a few nodes, often with leaves of level 15.
+pub fn small(random: &mut Random) -> Tables {
+    let growth = GROWTHS[random.below(3) as usize];
+    let splits = [random.below(4), random.below(20), 15 + random.below(20)][random.below(3) as usize];
+    grown(growth, splits as usize, [15, 15, 3][random.below(3) as usize], random)
+}
+
 /// The bits of a zero, a subnormal, an infinity, a NaN or the greatest number, of either sign.
 fn odd(random: &mut Random) -> u32 {
     [0, 1, 0x7f80_0000, 0x7fc0_0000, 0x7f7f_ffff][random.below(5) as usize] | (random.bits() as u32) << 31

@@ -23,6 +23,10 @@ impl Place for u8 {
     const FENCE: Self = 0xfe;
 }
 
+impl Place for usize {
+    const FENCE: Self = <u64 as Place>::FENCE as usize;
+}
+
 /// Lent memory with a fence on both sides.
 #[derive(Clone)]
 pub struct Fenced<T> {
@@ -47,15 +51,31 @@ impl<T: Place> Fenced<T> {
         &mut self.memory[FENCE..end]
     }
 
-    pub fn assert_holds(&self, expected: &[T], what: &str, call: &impl Fn() -> String) {
+    /// What isn't as expected: the first place that differs, or that a fence was written to. Nothing, where all is well.
+    pub fn difference(&self, expected: &[T], what: &str) -> Option<String> {
         let (before, rest) = self.memory.split_at(FENCE);
         let (part, behind) = rest.split_at(expected.len());
         if part != expected {
             let place = (0..part.len()).find(|&i| part[i] != expected[i]).expect("a place that differs");
             let (ours, model) = (part[place], expected[place]);
-            panic!("{}: place {place} of the {what} is {ours:x?}, the model says {model:x?}", call());
+            return Some(format!("place {place} of the {what} is {ours:x?}, the model says {model:x?}"));
         }
         let kept = before.iter().chain(behind).all(|place| *place == T::FENCE);
-        assert!(kept, "{}: written beside the {what}", call());
+        Some(format!("written beside the {what}")).filter(|_| !kept)
+    }
+
+    pub fn assert_holds(&self, expected: &[T], what: &str, call: &impl Fn() -> String) {
+        if let Some(difference) = self.difference(expected, what) {
+            panic!("{}: {difference}", call());
+        }
+    }
+}
+
+/// No promise settles the bits of a NaN: one stands for all.
+pub fn one_nan(bits: u32) -> u32 {
+    if f32::from_bits(bits).is_nan() {
+        f32::NAN.to_bits()
+    } else {
+        bits
     }
 }

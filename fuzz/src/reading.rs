@@ -1,0 +1,336 @@
+//! The calls that read a finished tree, over sound trees, nearly sound ones and noise.
+
+use crate::builds::disturb;
+use crate::calls::{yes_or_no, ACCEPTED};
+use crate::case::{number, or_edge, same, told, Case, Checked, Out};
+use crate::keys::vertex_and_level;
+use mittenhelm::raw::{mittenhelm_dual_cell, mittenhelm_list, mittenhelm_look_up, mittenhelm_sound};
+use oracle_answers::broken::{change, BREAKS};
+use oracle_answers::fields::{field, KINDS};
+use oracle_answers::inputs::Random;
+use oracle_answers::lent::{one_nan, Fenced};
+use oracle_answers::model::reading::{DualCell, Lookup, Reading, Tables};
+use oracle_answers::model::{self, level, Answer};
+use oracle_answers::questions::{asked, great_starts, lengths};
+use oracle_answers::trees::{grown, small, Tree, GROWTHS};
+
+/// How often a case makes its call on its tree.
+const TIMES: u32 = 20;
+
+/// The places for what a lookup finds.
+struct Found {
+    key: Out<u64>,
+    distance: Out<u32>,
+    tried: Out<u32>,
+}
+
+impl Found {
+    fn new() -> Self {
+        Found { key: Out::new(), distance: Out::new(), tried: Out::new() }
+    }
+
+    /// Where nothing is found the key is 0, and the distance isn't handed out.
+    fn differences(mut self, answer: Option<Lookup>) -> [Option<String>; 3] {
+        let (key, distance, tried) = match answer {
+            Some(Lookup::Found { key, distance, tried }) => (Some([key]), Some([one_nan(distance)]), Some([tried])),
+            Some(Lookup::Nothing { tried }) => (Some([0]), None, Some([tried])),
+            None => (None, None, None),
+        };
+        self.distance.settle(one_nan);
+        [
+            self.key.difference(key, "key found"),
+            self.distance.difference(distance, "distance found"),
+            self.tried.difference(tried, "number tried"),
+        ]
+    }
+}
+
+/// The places for a dual cell.
+struct Cell {
+    keys: Out<u64, 8>,
+    distances: Out<u32, 8>,
+    tried: Out<u32>,
+}
+
+impl Cell {
+    fn new() -> Self {
+        Cell { keys: Out::new(), distances: Out::new(), tried: Out::new() }
+    }
+
+    fn differences(mut self, answer: Option<DualCell>) -> [Option<String>; 3] {
+        self.distances.settle(one_nan);
+        [
+            self.keys.difference(answer.map(|cell| cell.keys), "eight keys"),
+            self.distances.difference(answer.map(|cell| cell.distances.map(one_nan)), "eight distances"),
+            self.tried.difference(answer.map(|cell| [cell.tried]), "number tried"),
+        ]
+    }
+}
+
+/// A tree's three tables as C takes them: each a pointer and a length.
+type Parts = (*const u64, usize, *const f32, usize, *const u64, usize);
+
+/// A tree that is lent to calls, sound or not, and what the model makes of it.
+pub struct Given {
+    keys: Fenced<u64>,
+    distances: Fenced<u32>,
+    leaves: Fenced<u64>,
+    tables: Tables,
+    reading: Reading,
+    /// The vertices with their levels; none, where the tree isn't sound.
+    vertices: Vec<(u64, u32)>,
+}
+
+impl Given {
+    pub fn new(tables: Tables) -> Self {
+        let reading = Reading::of(&tables);
+        Given {
+            keys: Fenced::new(&tables.keys),
+            distances: Fenced::new(&tables.distances),
+            leaves: Fenced::new(&tables.leaves),
+            vertices: reading.vertices().unwrap_or_default(),
+            reading,
+            tables,
+        }
+    }
+
+    fn parts(&self) -> Parts {
+        let (keys, distances, leaves) = (self.keys.part(), self.distances.part(), self.leaves.part());
+        (keys.as_ptr(), keys.len(), distances.as_ptr().cast(), distances.len(), leaves.as_ptr(), leaves.len())
+    }
+
+    /// What differs in the tree's own tables, which no call may write to, and in what is handed out.
+    fn with_tables<const N: usize>(&self, handed: [Option<String>; N]) -> Vec<Option<String>> {
+        let tables = [
+            self.keys.difference(&self.tables.keys, "tree's keys"),
+            self.distances.difference(&self.tables.distances, "tree's distances"),
+            self.leaves.difference(&self.tables.leaves, "tree's leaves"),
+        ];
+        handed.into_iter().chain(tables).collect()
+    }
+
+    fn told(&self) -> String {
+        let Tables { keys, distances, leaves } = &self.tables;
+        format!("keys of {}, distances of {}, leaves of {}", told(keys), told(distances), told(leaves))
+    }
+
+    fn sound(&self, case: &mut Case) -> Checked {
+        let (keys, k, distances, d, leaves, l) = self.parts();
+        let ours = unsafe { mittenhelm_sound(keys, k, distances, d, leaves, l) };
+        let expected = self.reading.is_sound();
+        let differences = self.with_tables([same(&ours, &(expected as u8), "answer")]);
+        case.judge("sound", 0, Ok(yes_or_no(expected)), &differences, || self.told())
+    }
+
+    /// A key of the tree, one near it, or any number.
+    fn some_key(&self, random: &mut Random) -> u64 {
+        if self.tables.keys.is_empty() || random.below(4) == 0 {
+            number(random)
+        } else {
+            asked(&self.tables, random)
+        }
+    }
+
+    fn look_up(&self, case: &mut Case) -> Checked {
+        let (key, mut found) = (self.some_key(&mut case.random), Found::new());
+        let (keys, k, distances, d, leaves, l) = self.parts();
+        let Found { key: place, distance, tried } = &mut found;
+        let said =
+            unsafe { mittenhelm_look_up(keys, k, distances, d, leaves, l, key, place.place(), distance.float(), tried.place()) };
+        self.judge_look_up(case, "look_up", key, said, found, self.reading.look_up(key))
+    }
+
+    /// Judges a call that looks a key up in the tree.
+    fn judge_look_up(
+        &self,
+        case: &mut Case,
+        name: &'static str,
+        key: u64,
+        said: u32,
+        found: Found,
+        expected: Answer<Lookup>,
+    ) -> Checked {
+        let way = expected.map(|answer| match answer {
+            Lookup::Found { .. } => "found",
+            Lookup::Nothing { .. } => "nothing",
+        });
+        let differences = self.with_tables(found.differences(expected.ok()));
+        case.judge(name, said, way, &differences, || format!("{}, {key:#x}", self.told()))
+    }
+
+    /// A start place, and lengths of the vertex table and the level table.
+    fn some_room(&self, random: &mut Random) -> (usize, [usize; 2]) {
+        let count = self.vertices.len();
+        let start = match random.below(8) {
+            0..=2 => 0,
+            3 | 4 => random.below(40) as usize,
+            5 => count,
+            6 => random.one_of(&great_starts(count)),
+            _ => random.bits() as usize,
+        };
+        // No table is as long as a great start place.
+        let from = if start <= count.max(40) { start } else { random.below(40) as usize };
+        let around = lengths(from, count);
+        let enough = from + count + random.below(3) as usize;
+        let rooms = [(); 2].map(|()| if random.below(2) == 0 { enough } else { random.one_of(&around) });
+        (start, rooms)
+    }
+
+    fn list(&self, case: &mut Case) -> Checked {
+        let (start, [vertices, levels]) = self.some_room(&mut case.random);
+        let mut vertices: Vec<u64> = (0..vertices as u64).map(|place| 0x0bad_0000_0000_0000 + place).collect();
+        let mut levels: Vec<u8> = (0..levels).map(|place| 0x80 + (place % 0x70) as u8).collect();
+        let (mut our_vertices, mut our_levels, mut count) = (Fenced::new(&vertices), Fenced::new(&levels), Out::<usize>::new());
+        let (v, m) = (our_vertices.lend(), our_levels.lend());
+        let (keys, k, distances, d, leaves, l) = self.parts();
+        let said = unsafe {
+            mittenhelm_list(
+                keys,
+                k,
+                distances,
+                d,
+                leaves,
+                l,
+                start,
+                v.as_mut_ptr(),
+                v.len(),
+                m.as_mut_ptr(),
+                m.len(),
+                count.place(),
+            )
+        };
+        let expected = self.reading.list(start, &mut vertices, &mut levels);
+        let differences = self.with_tables([
+            count.difference(expected.ok().map(|count| [count]), "count"),
+            our_vertices.difference(&vertices, "vertices"),
+            our_levels.difference(&levels, "levels"),
+        ]);
+        let way = expected.map(|count| if count == 0 { "none" } else { "vertices" });
+        let arguments = || format!("{}, {start:#x}, tables of {} and {}", self.told(), vertices.len(), levels.len());
+        case.judge("list", said, way, &differences, arguments)
+    }
+
+    /// A listed vertex, a corner of a cell in or below the tree, or any number; with its level or another one.
+    fn some_vertex(&self, random: &mut Random) -> (u64, u32) {
+        match random.below(4) {
+            0 => vertex_and_level(random),
+            1 if !self.vertices.is_empty() => {
+                let (vertex, level) = random.one_of(&self.vertices);
+                (vertex, or_edge(random.level(level), random))
+            }
+            _ => {
+                let cell = self.some_key(random);
+                let vertex = model::vertex(cell, level(cell), random.below(8) as u32);
+                (vertex.unwrap_or(cell), or_edge(level(cell), random))
+            }
+        }
+    }
+
+    fn dual_cell(&self, case: &mut Case) -> Checked {
+        let ((vertex, level), mut cell) = (self.some_vertex(&mut case.random), Cell::new());
+        let (keys, k, distances, d, leaves, l) = self.parts();
+        let Cell { keys: eight, distances: floats, tried } = &mut cell;
+        let said = unsafe {
+            mittenhelm_dual_cell(keys, k, distances, d, leaves, l, vertex, level, eight.all(), floats.floats(), tried.place())
+        };
+        self.judge_dual_cell(case, "dual_cell", (vertex, level), said, cell, self.reading.dual_cell(vertex, level))
+    }
+
+    /// Judges a call that gives a dual cell in the tree.
+    fn judge_dual_cell(
+        &self,
+        case: &mut Case,
+        name: &'static str,
+        (vertex, level): (u64, u32),
+        said: u32,
+        cell: Cell,
+        expected: Answer<DualCell>,
+    ) -> Checked {
+        let differences = self.with_tables(cell.differences(expected.ok()));
+        case.judge(name, said, expected.map(|_| ACCEPTED), &differences, || format!("{}, {vertex:#x}, {level}", self.told()))
+    }
+
+    /// Each call once.
+    pub fn every_call(&self, case: &mut Case) -> Checked {
+        self.sound(case)?;
+        self.look_up(case)?;
+        self.list(case)?;
+        self.dual_cell(case)
+    }
+}
+
+/// A tree for a case: noise, sound, or nearly sound.
+fn some_tree(random: &mut Random) -> Tables {
+    let mut tables = match random.below(16) {
+        0 => noise(random, number),
+        // Ascending, and so small that children and parents are often there.
+        1 => {
+            let mut tables = noise(random, |random| random.below(20));
+            tables.keys.sort_unstable();
+            tables.keys.dedup();
+            tables.distances.resize(tables.keys.len(), 7);
+            tables
+        }
+        2 => {
+            let bound = random.below(4) as u32;
+            Tree::by_rule(bound, &*field(random.one_of(&KINDS), bound, random)).tables()
+        }
+        3 => grown(random.one_of(&GROWTHS), random.below(150) as usize, 15, random),
+        _ => small(random),
+    };
+    match random.below(16) {
+        0 | 1 => {
+            let (_, break_it) = random.one_of(&BREAKS);
+            // A tree may have nothing of the kind to break, and one that isn't sound is not broken.
+            if tables.is_sound() {
+                let _ = break_it(&mut tables, random);
+            }
+        }
+        2 | 3 => (0..1 + random.below(3)).for_each(|_| change(&mut tables, random)),
+        4 | 5 => (0..1 + random.below(3)).for_each(|_| disturb_one(&mut tables, random)),
+        _ => {}
+    }
+    tables
+}
+
+/// Tables of any lengths, of 0 too, that hold such numbers.
+fn noise(random: &mut Random, some: impl Fn(&mut Random) -> u64) -> Tables {
+    let [keys, distances, leaves] = [(); 3].map(|()| random.below(3) * random.below(12));
+    Tables {
+        keys: (0..keys).map(|_| some(random)).collect(),
+        distances: (0..distances).map(|_| random.bits() as u32).collect(),
+        leaves: (0..leaves).map(|_| some(random)).collect(),
+    }
+}
+
+fn disturb_one(tables: &mut Tables, random: &mut Random) {
+    let value = number(random);
+    match random.below(5) {
+        0 | 1 => disturb(&mut tables.keys, value, random),
+        2 | 3 => disturb(&mut tables.leaves, value, random),
+        _ => disturb(&mut tables.distances, value as u32, random),
+    }
+}
+
+/// A case of one call: several times on one tree.
+fn of_tree(case: &mut Case, call: fn(&Given, &mut Case) -> Checked) -> Checked {
+    let given = Given::new(some_tree(&mut case.random));
+    (0..TIMES).try_for_each(|_| call(&given, case))
+}
+
+/// On a tree of its own each time, since there is nothing else to choose.
+pub fn sound(case: &mut Case) -> Checked {
+    (0..2).try_for_each(|_| Given::new(some_tree(&mut case.random)).sound(case))
+}
+
+pub fn look_up(case: &mut Case) -> Checked {
+    of_tree(case, Given::look_up)
+}
+
+pub fn list(case: &mut Case) -> Checked {
+    of_tree(case, Given::list)
+}
+
+pub fn dual_cell(case: &mut Case) -> Checked {
+    of_tree(case, Given::dual_cell)
+}

@@ -1,0 +1,3 @@
+/* What the programs use of <math.h>; stdbool.h says why. */
+#define NAN __builtin_nanf("")
+float sqrtf(float x);

@@ -1,0 +1,171 @@
+/* A part from its distance field to its dual cells and their slabs, as a printer's firmware does it: static tables, no heap. Written
+ * in the language that C and C++ share. It prints its totals, and exits 0 if all that it was given is as the header says. */
+#include "expect.h"
+#include "mittenhelm.h"
+
+#include <math.h>
+
+/* Places that are enough for every tree of so many nodes; and as many vertices as this part has room for. */
+enum { NODES = 4096, LEAVES = (7 * NODES + 1) / 8, VERTICES = 4096 };
+
+/* The part's depth bound, and its slabs. */
+enum { BOUND = 5, SLAB_EXPONENT = 3, SLABS = 1 << SLAB_EXPONENT };
+
+static uint64_t keys[NODES], leaves[LEAVES], queue[LEAVES], vertices[VERTICES];
+static float distances[NODES];
+static uint8_t levels[VERTICES];
+static uint32_t cells_in_slab[SLABS];
+
+/* The tables together, with the state. */
+enum { LENT = sizeof keys + sizeof distances + sizeof leaves + sizeof queue + sizeof vertices + sizeof levels + 64 };
+
+static size_t nodes, leaf_count;
+
+/* The tree that the build left. */
+#define TREE keys, nodes, distances, nodes, leaves, leaf_count
+
+/* The distance from a sphere. Coordinates down to level 5 have six binary places, so all is exact up to the root: it makes no
+ * difference whether a compiler joins a product and a sum. The root and the last difference are rounded once each. */
+static float sphere(float x, float y, float z)
+{
+    const float dx = x - 0.4375f, dy = y - 0.5f, dz = z - 0.5625f;
+
+    return sqrtf(dx * dx + dy * dy + dz * dz) - 0.21875f;
+}
+
+/* Answers each request until the build is finished. */
+static void build(void)
+{
+    uint64_t state[MITTENHELM_STATE_WORDS], key;
+    float x, y, z, half;
+    uint32_t refusal;
+
+    refusal = mittenhelm_start(BOUND, keys, NODES, distances, NODES, leaves, LEAVES, queue, LEAVES, state, MITTENHELM_STATE_WORDS,
+        &key, &x, &y, &z, &half);
+    expect(refusal == MITTENHELM_ACCEPTED, "start");
+    while (refusal == MITTENHELM_ACCEPTED && state[MITTENHELM_STATE_ASKED] != 0)
+        refusal = mittenhelm_distance(state, MITTENHELM_STATE_WORDS, keys, NODES, distances, NODES, leaves, LEAVES, queue, LEAVES,
+            sphere(x, y, z), &key, &x, &y, &z, &half);
+    expect(refusal == MITTENHELM_ACCEPTED, "every distance has room");
+    if (refusal != MITTENHELM_ACCEPTED)
+        return;
+    nodes = (size_t)state[MITTENHELM_STATE_NODES];
+    leaf_count = (size_t)state[MITTENHELM_STATE_LEAVES];
+}
+
+static bool ascends(const uint64_t *table, size_t length)
+{
+    size_t i;
+
+    for (i = 1; i < length; i++)
+        if (table[i - 1] >= table[i])
+            return false;
+    return true;
+}
+
+/* The place of a key in an ascending table; the length, where it isn't there. */
+static size_t place_of(uint64_t key, const uint64_t *table, size_t length)
+{
+    size_t from = 0, to = length;
+
+    while (from < to) {
+        const size_t middle = from + (to - from) / 2;
+
+        if (table[middle] < key)
+            from = middle + 1;
+        else
+            to = middle;
+    }
+    return from < length && table[from] == key ? from : length;
+}
+
+/* The leaves fill the cube: counted in cells of the bound's level, of which a leaf of level L holds 8^(BOUND - L). */
+static void check_tree(void)
+{
+    uint64_t volume = 0;
+    size_t i;
+
+    expect(mittenhelm_sound(TREE), "the tree is sound");
+    expect(8 * leaf_count == 7 * nodes + 1, "seven leaves more for each split");
+    expect(ascends(keys, nodes) && ascends(leaves, leaf_count), "keys and leaves ascend");
+    for (i = 0; i < leaf_count; i++) {
+        expect(mittenhelm_level(leaves[i]) <= BOUND, "no leaf is deeper than the bound");
+        volume += (uint64_t)1 << 3 * (BOUND - mittenhelm_level(leaves[i]));
+    }
+    expect(volume == (uint64_t)1 << 3 * BOUND, "the volumes of the leaves add up to the cube");
+}
+
+static size_t list(void)
+{
+    size_t count = 0, i;
+
+    expect(mittenhelm_list(TREE, 0, vertices, VERTICES, levels, VERTICES, &count) == MITTENHELM_ACCEPTED, "list");
+    expect(ascends(vertices, count), "vertices ascend");
+    for (i = 0; i < count; i++)
+        expect(mittenhelm_is_inner(vertices[i], levels[i]), "a listed vertex is inner at its level");
+    return count;
+}
+
+/* An entry is a leaf with its own distance, and its region holds the cell of the level on that side. */
+static void check_entry(uint64_t vertex, uint32_t level, uint32_t side, uint64_t entry, float distance)
+{
+    const size_t place = place_of(entry, keys, nodes);
+    uint64_t cell = 0;
+
+    expect(place_of(entry, leaves, leaf_count) < leaf_count, "an entry is a leaf");
+    expect(place < nodes && distances[place] == distance, "an entry has its leaf's distance");
+    expect(mittenhelm_side(vertex, level, side, &cell) == MITTENHELM_ACCEPTED, "side");
+    while (mittenhelm_level(cell) > mittenhelm_level(entry))
+        cell = mittenhelm_parent(cell);
+    expect(cell == entry, "an entry's region holds the cell on its side");
+}
+
+/* What all dual cells have together. Sums of keys go modulo 2^64. */
+struct totals {
+    uint64_t keys;
+    uint32_t tried, outside;
+};
+
+static void add_cell(uint64_t vertex, uint32_t level, struct totals *totals)
+{
+    uint64_t cell_keys[8];
+    float cell_distances[8];
+    uint32_t tried = 0, slab = 0, side;
+
+    if (mittenhelm_dual_cell(TREE, vertex, level, cell_keys, cell_distances, &tried) != MITTENHELM_ACCEPTED
+        || mittenhelm_slab(vertex, level, SLAB_EXPONENT, &slab) != MITTENHELM_ACCEPTED || slab >= SLABS) {
+        expect(false, "every vertex has a dual cell and a slab");
+        return;
+    }
+    for (side = 0; side < 8; side++) {
+        check_entry(vertex, level, side, cell_keys[side], cell_distances[side]);
+        totals->keys += (side + 1) * cell_keys[side];
+        totals->outside += cell_distances[side] > 0;
+    }
+    totals->tried += tried;
+    cells_in_slab[slab]++;
+}
+
+int main(void)
+{
+    struct totals totals = { 0, 0, 0 };
+    size_t count, i;
+    uint32_t cells = 0, slab;
+
+    expect(LENT < 256 * 1024, "a printer has 256 KiB for everything");
+    build();
+    check_tree();
+    count = list();
+    for (i = 0; i < count; i++)
+        add_cell(vertices[i], levels[i], &totals);
+    for (slab = 0; slab < SLABS; slab++)
+        cells += cells_in_slab[slab];
+    expect(cells == count, "every cell lies in one slab");
+
+    printf("%lu nodes, %lu leaves, %lu vertices\n", (unsigned long)nodes, (unsigned long)leaf_count, (unsigned long)count);
+    printf("%lu keys tried, %lu entries outside, keys %llu\n", (unsigned long)totals.tried, (unsigned long)totals.outside,
+        (unsigned long long)totals.keys);
+    for (slab = 0; slab < SLABS; slab++)
+        printf("slab %lu: %lu cells\n", (unsigned long)slab, (unsigned long)cells_in_slab[slab]);
+    return wrong;
+}
