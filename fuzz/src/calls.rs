@@ -52,5 +52,7 @@ pub const CALLS: &[Call] = &[
     Call { name: "look_up", accepts: &["found", "nothing"], refuses: &[11, 1], feed: reading::look_up },
     Call { name: "list", accepts: &["vertices", "none"], refuses: &[11, 12], feed: reading::list },
     refusing("dual_cell", &[11, 4], reading::dual_cell),
+    Call { name: "look_up_trusting", accepts: &["found", "nothing"], refuses: &[1], feed: reading::look_up_trusting },
+    refusing("dual_cell_trusting", &[4], reading::dual_cell_trusting),
     refusing("slab", &[4, 5], keys::slab),
 ];

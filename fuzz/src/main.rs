@@ -122,10 +122,10 @@ fn told(outcome: Outcome) -> String {
 
 fn summary(options: &Options, tallies: &[Tally]) -> String {
     let cases: u64 = tallies.iter().map(|tally| tally.cases).sum();
-    let mut text = format!("seed {}, {cases} cases\n{:<14} {:>10} {:>12}  answers\n", options.seed, "call", "cases", "calls");
+    let mut text = format!("seed {}, {cases} cases\n{:<18} {:>10} {:>12}  answers\n", options.seed, "call", "cases", "calls");
     for (call, tally) in CALLS.iter().zip(tallies) {
         let answers: Vec<String> = outcomes(call).map(|outcome| format!("{} {}", told(outcome), tally.of(outcome))).collect();
-        writeln!(text, "{:<14} {:>10} {:>12}  {}", call.name, tally.cases, tally.calls(), answers.join(", "))
+        writeln!(text, "{:<18} {:>10} {:>12}  {}", call.name, tally.cases, tally.calls(), answers.join(", "))
             .expect("a String takes all that is written");
     }
     text

@@ -4,7 +4,10 @@ use crate::builds::disturb;
 use crate::calls::{yes_or_no, ACCEPTED};
 use crate::case::{number, or_edge, same, told, Case, Checked, Out};
 use crate::keys::vertex_and_level;
-use mittenhelm::raw::{mittenhelm_dual_cell, mittenhelm_list, mittenhelm_look_up, mittenhelm_sound};
+use mittenhelm::raw::{
+    mittenhelm_dual_cell, mittenhelm_dual_cell_trusting, mittenhelm_list, mittenhelm_look_up, mittenhelm_look_up_trusting,
+    mittenhelm_sound,
+};
 use oracle_answers::broken::{change, BREAKS};
 use oracle_answers::fields::{field, KINDS};
 use oracle_answers::inputs::Random;
@@ -140,6 +143,15 @@ impl Given {
         self.judge_look_up(case, "look_up", key, said, found, self.reading.look_up(key))
     }
 
+    fn look_up_trusting(&self, case: &mut Case) -> Checked {
+        let (key, mut found) = (self.some_key(&mut case.random), Found::new());
+        let (keys, k, distances, d, ..) = self.parts();
+        let Found { key: place, distance, tried } = &mut found;
+        let said =
+            unsafe { mittenhelm_look_up_trusting(keys, k, distances, d, key, place.place(), distance.float(), tried.place()) };
+        self.judge_look_up(case, "look_up_trusting", key, said, found, self.tables.look_up_trusting(key))
+    }
+
     /// Judges a call that looks a key up in the tree.
     fn judge_look_up(
         &self,
@@ -236,6 +248,17 @@ impl Given {
         self.judge_dual_cell(case, "dual_cell", (vertex, level), said, cell, self.reading.dual_cell(vertex, level))
     }
 
+    fn dual_cell_trusting(&self, case: &mut Case) -> Checked {
+        let ((vertex, level), mut cell) = (self.some_vertex(&mut case.random), Cell::new());
+        let (keys, k, distances, d, ..) = self.parts();
+        let Cell { keys: eight, distances: floats, tried } = &mut cell;
+        let said = unsafe {
+            mittenhelm_dual_cell_trusting(keys, k, distances, d, vertex, level, eight.all(), floats.floats(), tried.place())
+        };
+        let expected = self.tables.dual_cell_trusting(vertex, level);
+        self.judge_dual_cell(case, "dual_cell_trusting", (vertex, level), said, cell, expected)
+    }
+
     /// Judges a call that gives a dual cell in the tree.
     fn judge_dual_cell(
         &self,
@@ -255,7 +278,9 @@ impl Given {
         self.sound(case)?;
         self.look_up(case)?;
         self.list(case)?;
-        self.dual_cell(case)
+        self.dual_cell(case)?;
+        self.look_up_trusting(case)?;
+        self.dual_cell_trusting(case)
     }
 }
 
@@ -333,4 +358,12 @@ pub fn list(case: &mut Case) -> Checked {
 
 pub fn dual_cell(case: &mut Case) -> Checked {
     of_tree(case, Given::dual_cell)
+}
+
+pub fn look_up_trusting(case: &mut Case) -> Checked {
+    of_tree(case, Given::look_up_trusting)
+}
+
+pub fn dual_cell_trusting(case: &mut Case) -> Checked {
+    of_tree(case, Given::dual_cell_trusting)
 }
