@@ -12,11 +12,11 @@ pub fn page() -> String {
     let table = |name, about, columns| format!("  {name:<11} {about}:\n              {columns}\n");
     let tables: String = TABLES.iter().map(|each| table(each.name, each.about, each.columns)).collect();
     let (least, most) = (POINTS.start(), POINTS.end());
-    let (usual_slabs, most_slabs) = (1 << USUAL_EXPONENT, 1 << MOST_EXPONENT);
+    let usual_slabs = 1 << USUAL_EXPONENT;
     format!(
         "\
-usage: mittenhelm slice PART [--bound N] [--slabs N] [--nodes N] [--csv TABLE]
-                             [--svg FILE [--slab K]]
+usage: mittenhelm slice PART [--bound N] [--exponent N] [--nodes N]
+                             [--csv TABLE] [--svg FILE [--slab K]]
        mittenhelm sample PART [--points N | --points NX,NY,NZ] [-o FILE]
        mittenhelm key NUMBER
 
@@ -25,7 +25,9 @@ checks the tree, lists its vertices and gets the dual cell of each. It reports
 what there is, what memory that took, and how many cells each slab has.
   --bound N   split no cell of level N: 0 to {MOST_BOUND}, default {USUAL_BOUND};
               below {LEAST_BOUND} it is as {LEAST_BOUND}
-  --slabs N   slabs along z: a power of two from 1 to {most_slabs}, default {usual_slabs}
+  --exponent N
+              the slab exponent: 2^N slabs along z, 0 to {MOST_EXPONENT}, default {USUAL_EXPONENT},
+              which is {usual_slabs} slabs
   --nodes N   lend room for N nodes: 1 to {MOST_NODES}, default {MOST_NODES}; for leaves and
               in the queue there are (7N + 1) / 8 places
   --csv TABLE print a table for programs, not the report

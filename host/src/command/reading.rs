@@ -3,7 +3,7 @@
 use super::fault::Fault;
 use super::fields::Point;
 use super::progress::Progress;
-use mittenhelm::{DualCell, Refusal, Tree};
+use mittenhelm::{DualCell, Refusal, SoundTree, Tree};
 
 /// Splitting a leaf makes no more vertices: of 27 places, the eight corners were there.
 const VERTICES_OF_A_SPLIT: usize = 19;
@@ -42,15 +42,13 @@ pub struct Reading {
 
 impl Reading {
     pub fn new(tree: &Tree, exponent: u32, progress: &mut Progress) -> Result<Self, Fault> {
-        if !tree.sound() {
-            return Err(Fault::output("the finished build left a tree that isn't sound"));
-        }
+        let sound = tree.checked()?;
         let list_places = VERTICES_OF_A_SPLIT * (tree.keys.len() - tree.leaves.len());
         let (mut vertices, mut levels) = (vec![0; list_places], vec![0; list_places]);
-        let count = tree.list(0, &mut vertices, &mut levels)?;
+        let count = sound.list(0, &mut vertices, &mut levels)?;
         let mut cells = Vec::with_capacity(count);
         for (&vertex, &level) in vertices.iter().zip(&levels).take(count) {
-            cells.push(Cell::of(tree, vertex, level.into(), exponent)?);
+            cells.push(Cell::of(&sound, vertex, level.into(), exponent)?);
             progress.say_part("dual cells", cells.len(), count);
         }
         let mut slabs = vec![Count::default(); 1 << exponent];
@@ -75,11 +73,9 @@ impl Count {
 }
 
 impl Cell {
-    fn of(tree: &Tree, vertex: u64, level: u32, exponent: u32) -> Result<Self, Refusal> {
+    fn of(tree: &SoundTree, vertex: u64, level: u32, exponent: u32) -> Result<Self, Refusal> {
         let slab = mittenhelm::slab(vertex, level, exponent)?;
-        // The tree was found sound, and is checked again for each cell here: for a tree of some thousand nodes it is soon done.
-        let dual = tree.dual_cell(vertex, level)?;
-        Ok(Cell { vertex, level, slab, dual })
+        Ok(Cell { vertex, level, slab, dual: tree.dual_cell(vertex, level)? })
     }
 
     /// Whether the part's surface goes through: some of its nodes are inside, and some aren't.

@@ -1,6 +1,6 @@
 //! `mittenhelm slice`: the tree over a part, and what each slab of it holds.
 
-use super::arguments::{whole, Arguments};
+use super::arguments::Arguments;
 use super::build::{Built, Lent, MOST_NODES};
 use super::csv;
 use super::fault::Fault;
@@ -28,7 +28,7 @@ pub struct Cut {
 }
 
 pub fn run(words: &[OsString]) -> Result<(), Fault> {
-    let arguments = Arguments::new(words, &["--bound", "--slabs", "--nodes", "--csv", "--svg", "--slab"])?;
+    let arguments = Arguments::new(words, &["--bound", "--exponent", "--nodes", "--csv", "--svg", "--slab"])?;
     let word = arguments.only("part")?;
     let cut = cut(&arguments)?;
     let table = arguments.read("--csv", &csv::names(), csv::named)?;
@@ -55,12 +55,9 @@ pub fn run(words: &[OsString]) -> Result<(), Fault> {
 }
 
 fn cut(arguments: &Arguments) -> Result<Cut, Fault> {
-    let exponent = |word: &str| whole(word).filter(|slabs| slabs.is_power_of_two()).map(u32::trailing_zeros);
-    let described = format!("a power of two from 1 to {}", 1 << MOST_EXPONENT);
-    let exponent = arguments.read("--slabs", &described, |word| exponent(word).filter(|&e| e <= MOST_EXPONENT))?;
     Ok(Cut {
         bound: arguments.number("--bound", 0..=MOST_BOUND)?.unwrap_or(USUAL_BOUND),
-        exponent: exponent.unwrap_or(USUAL_EXPONENT),
+        exponent: arguments.number("--exponent", 0..=MOST_EXPONENT)?.unwrap_or(USUAL_EXPONENT),
         nodes: arguments.number("--nodes", 1..=MOST_NODES)?.unwrap_or(MOST_NODES),
     })
 }

@@ -12,7 +12,7 @@ fn help() {
     for words in [&["help"][..], &["-h"], &["slice", "--help"], &["slice", "no-such-part", "-h"], &["sample", "--help"]] {
         assert_eq!(printed(words), page, "{words:?}");
     }
-    for word in ["--bound", "--slabs", "--nodes", "--csv", "--svg", "--slab", "--points", "-o", "mittenhelm-grid NX NY NZ"] {
+    for word in ["--bound", "--exponent", "--nodes", "--csv", "--svg", "--slab", "--points", "-o", "mittenhelm-grid NX NY NZ"] {
         assert!(page.contains(word), "{word}");
     }
     assert!(crate::fields::BUILT_INS.iter().all(|part| page.contains(&format!("\n  {} ", part.name))), "{page}");
@@ -55,10 +55,9 @@ fn bad_arguments() {
         &["slice", "sphere", "--bound", "4.0"],
         &["slice", "sphere", "--bound", "99999999999999999999"],
         &["slice", "sphere", "--bound", "4", "--bound", "4"],
-        &["slice", "sphere", "--slabs", "0"],
-        &["slice", "sphere", "--slabs", "3"],
-        &["slice", "sphere", "--slabs", "65536"],
-        &["slice", "sphere", "--slabs", "4294967296"],
+        &["slice", "sphere", "--exponent", "16"],
+        &["slice", "sphere", "--exponent", "-0"],
+        &["slice", "sphere", "--exponent", "4294967296"],
         &["slice", "sphere", "--nodes", "0"],
         &["slice", "sphere", "--nodes", "4097"],
         &["slice", "sphere", "--csv"],
@@ -67,7 +66,7 @@ fn bad_arguments() {
         &["slice", "sphere", "--svg", ""],
         &["slice", "sphere", "--slab", "0"],
         &["slice", "sphere", "--svg", svg, "--slab", "16"],
-        &["slice", "sphere", "--svg", svg, "--slabs", "4", "--slab", "4"],
+        &["slice", "sphere", "--svg", svg, "--exponent", "2", "--slab", "4"],
         &["sample"],
         &["sample", "ball"],
         &["sample", "sphere", "--bound", "4"],
@@ -108,8 +107,8 @@ fn words_that_are_no_text() {
 
 #[test]
 fn a_value_may_stand_behind_a_sign() {
-    let page = printed(&["slice", "torus", "--bound", "3", "--slabs", "8"]);
-    assert_eq!(printed(&["slice", "--slabs=8", "torus", "--bound=3"]), page);
+    let page = printed(&["slice", "torus", "--bound", "3", "--exponent", "3"]);
+    assert_eq!(printed(&["slice", "--exponent=3", "torus", "--bound=3"]), page);
 }
 
 #[test]

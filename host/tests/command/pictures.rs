@@ -133,10 +133,11 @@ fn assert_tiles(squares: &[Square]) {
 }
 
 /// Draws a slab, the middle one where none is named, and hands on its squares.
-fn check(name: &str, part: &str, bound: u32, slabs: u32, slab: Option<u32>) -> Vec<Square> {
+fn check(name: &str, part: &str, bound: u32, exponent: u32, slab: Option<u32>) -> Vec<Square> {
+    let slabs = 1 << exponent;
     let path = file(&format!("{name}.svg"));
-    let (svg, bound, count) = (path.to_str().expect("plain text"), bound.to_string(), slabs.to_string());
-    let options = ["--bound", &bound, "--slabs", &count];
+    let (svg, bound, exponent) = (path.to_str().expect("plain text"), bound.to_string(), exponent.to_string());
+    let options = ["--bound", &bound, "--exponent", &exponent];
     let chosen = slab.map_or(slabs / 2, |slab| slab);
     let named = slab.map(|slab| slab.to_string());
     let choice: Vec<&str> = named.iter().flat_map(|slab| ["--slab", slab]).collect();
@@ -157,7 +158,7 @@ fn check(name: &str, part: &str, bound: u32, slabs: u32, slab: Option<u32>) -> V
 fn of_built_in_parts() {
     let mut signs = BTreeSet::new();
     for part in &BUILT_INS {
-        let squares = check(part.name, part.name, 4, 16, None);
+        let squares = check(part.name, part.name, 4, 4, None);
         signs.extend(squares.iter().map(|square| square.3));
     }
     assert_eq!(signs.into_iter().collect::<Vec<_>>(), ["inside", "outside"]);
@@ -166,10 +167,8 @@ fn of_built_in_parts() {
 /// The first and the last slab, a single one, and planes that go between cells or through the smallest of them.
 #[test]
 fn of_any_slab() {
-    for (slabs, slab) in
-        [(1, None), (2, Some(0)), (2, Some(1)), (16, Some(0)), (16, Some(15)), (32768, None), (32768, Some(32767))]
-    {
-        check("any-slab", "bracket", 3, slabs, slab);
+    for (exponent, slab) in [(0, None), (1, Some(0)), (1, Some(1)), (4, Some(0)), (4, Some(15)), (15, None), (15, Some(32767))] {
+        check("any-slab", "bracket", 3, exponent, slab);
     }
 }
 
@@ -178,7 +177,7 @@ fn of_any_slab() {
 fn of_a_deep_tree() {
     let field = |[x, y, z]: [u32; 3]| 0.4 * ((x as f32 / 4.0 - 0.25).abs() + y as f32 + z as f32);
     let path = saved("deep.grid", &grid([5, 2, 2], field));
-    let squares = check("deep", &path, 15, 32768, Some(0));
+    let squares = check("deep", &path, 15, 15, Some(0));
     let sides: BTreeSet<u32> = squares.iter().map(|square| square.2).collect();
     assert_eq!(sides.into_iter().collect::<Vec<u32>>(), (0..14).map(|power| 1 << power).collect::<Vec<u32>>());
 }
@@ -187,7 +186,7 @@ fn of_a_deep_tree() {
 #[test]
 fn of_zeros() {
     let path = saved("a <b> & \"c\"'s.grid", &grid([2, 2, 2], |_| 0.0));
-    let squares = check("zeros", &path, 3, 4, None);
+    let squares = check("zeros", &path, 3, 2, None);
     assert_eq!(squares.len(), 64);
     assert!(squares.iter().all(|square| square.3 == "zero"));
     let document = fs::read_to_string(file("zeros.svg")).expect("a picture");

@@ -93,8 +93,8 @@ fn of_built_in_parts() {
     for part in &BUILT_INS {
         for (bound, exponent) in [(0, 1), (2, 0), (3, 5), (4, 4)] {
             let expected = Expected::new(part, bound);
-            let (bound, slabs) = (bound.to_string(), (1 << exponent).to_string());
-            let options = ["--bound", &bound, "--slabs", &slabs];
+            let (bound, power) = (bound.to_string(), exponent.to_string());
+            let options = ["--bound", &bound, "--exponent", &power];
             let text = |name| printed(&slice(part.name, &[&options, &["--csv", name][..]].concat()));
             assert_eq!(text("leaves"), expected.leaves_table());
             assert_eq!(text("vertices"), expected.vertices_table(exponent));
@@ -170,8 +170,8 @@ fn of_many_slabs_and_little_room() {
     let part = &BUILT_INS[0];
     let expected = Expected::new(part, 3);
     for exponent in [9, 15] {
-        let slabs = (1 << exponent).to_string();
-        let options = ["--bound", "3", "--slabs", &slabs, "--nodes", "600"];
+        let power = exponent.to_string();
+        let options = ["--bound", "3", "--exponent", &power, "--nodes", "600"];
         let report = printed(&slice(part.name, &options));
         check_slabs(&report, &table(part.name, &options, "slabs"), &expected.slabs(exponent));
         check_memory(&report, 600, &expected);
@@ -182,6 +182,6 @@ fn of_many_slabs_and_little_room() {
 /// What is usual is what the help says.
 #[test]
 fn without_options() {
-    let options = ["--bound", "4", "--slabs", "16", "--nodes", "4096"];
+    let options = ["--bound", "4", "--exponent", "4", "--nodes", "4096"];
     assert_eq!(printed(&["slice", "lattice"]), printed(&slice("lattice", &options)));
 }
