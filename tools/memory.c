@@ -62,13 +62,15 @@ struct call {
 };
 static const struct call *made;
 
-/* What leaves the stack again runs above the room that is set apart here, and so can't be taken for the call's. */
+/* What leaves the stack again runs above the room that is set apart here, and so can't be taken for the call's. The room is named in
+ * assembly, or a compiler would do without it. */
 static void set_apart(void)
 {
-    volatile unsigned char room[SET_APART];
-    room[0] = 0;
+    unsigned char room[SET_APART];
+
+    __asm__ volatile("" : : "r"(room) : "memory");
     made->make();
-    (void)room[0];
+    __asm__ volatile("" : : "r"(room) : "memory");
 }
 
 static void run_inside(function to)
