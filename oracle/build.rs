@@ -1,5 +1,5 @@
 //! Puts the published files where lib.rs includes them: unchanged for `oracle-published`; for `oracle-integer` with only the
-//! body of `level` replaced.
+//! body of `level` replaced, and so for `oracle-integer-timed`, by a quicker one. `oracle-published-timed` has the text unchanged too.
 
 use std::env;
 use std::fs;
@@ -19,11 +19,20 @@ const INTEGER_BODY: &str = "
         (1..22).filter(|l| 1u64 << (3 * l) <= self.0).count()
     }";
 
+/// The same number by the quickest way, so that what replaces the body isn't what makes the text slow. It has no loop: a compiler can't
+/// drop an unused call of what might never end.
+const QUICK_BODY: &str = "
+        (63 - (self.0 | 1).leading_zeros() as usize) / 3
+    }";
+
 fn main() {
-    println!("cargo:rustc-check-cfg=cfg(published_text)");
+    println!("cargo:rustc-check-cfg=cfg(published_text, timed)");
     println!("cargo:rerun-if-env-changed=MITTENHELM_RUST");
     println!("cargo:rerun-if-changed=../build.rs");
     let package = variable("CARGO_PKG_NAME");
+    if package.ends_with("-timed") {
+        println!("cargo:rustc-cfg=timed");
+    }
     let from = published_folder();
     let to = PathBuf::from(variable("OUT_DIR"));
 
@@ -38,7 +47,8 @@ fn main() {
         }
         let text = fs::read_to_string(&path).unwrap_or_else(|e| panic!("{}: {}", path.display(), e));
         let text = match (package.as_str(), included) {
-            ("oracle-integer", "morton.rs") => with_integer_level(&text),
+            ("oracle-integer", "morton.rs") => with_level(&text, INTEGER_BODY),
+            ("oracle-integer-timed", "morton.rs") => with_level(&text, QUICK_BODY),
             _ => text,
         };
         fs::write(to.join(included), text).expect("OUT_DIR can be written");
@@ -65,14 +75,14 @@ fn published_folder() -> PathBuf {
     }
 }
 
-fn with_integer_level(text: &str) -> String {
+fn with_level(text: &str, body: &str) -> String {
     assert_eq!(text.matches(LEVEL).count(), 1, "the published text has one function `level`");
     let start = text.find(LEVEL).unwrap() + LEVEL.len();
     let end = start + body_length(&text[start..]);
-    let changed = [&text[..start], INTEGER_BODY, &text[end..]].concat();
+    let changed = [&text[..start], body, &text[end..]].concat();
     // Whoever puts the published body back has the published text, byte for byte.
-    assert_eq!(changed.matches(INTEGER_BODY).count(), 1);
-    assert_eq!(changed.replace(INTEGER_BODY, &text[start..end]), text);
+    assert_eq!(changed.matches(body).count(), 1);
+    assert_eq!(changed.replace(body, &text[start..end]), text);
     changed
 }
 

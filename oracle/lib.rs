@@ -1,8 +1,11 @@
 //! The published files of isosurface 0.0.4, and their answers on plain numbers. Two packages compile this file: for
-//! `oracle-published` the text is unchanged, for `oracle-integer` the body of `level` is replaced (build.rs).
+//! `oracle-published` the text is unchanged, for `oracle-integer` the body of `level` is replaced (build.rs). Two more compile it to
+//! be timed, with as little of ours around the same texts as can be: `oracle-published-timed` and `oracle-integer-timed`.
 
 #[cfg(published_text)]
 use std::cell::RefCell;
+#[cfg(published_text)]
+use std::collections::HashMap;
 
 #[cfg(debug_assertions)]
 compile_error!("the published text relies on the release build, which wraps: add --release");
@@ -59,14 +62,27 @@ mod source {
 // Triangles stay behind. What would make them from the eight nodes of a dual cell hands out those eight instead: the distances are
 // kept, and each of the first eight edges goes from a node to itself, so that the point on it is the node's centre.
 
+// Where the search for the eight is timed, no edge is asked for, so that the compiler drops what serves triangles alone: the centres
+// and the map of edges. That takes a package of its own, since the text names the module.
+
 #[cfg(published_text)]
 mod marching_cubes_impl {
     use math::Vec3;
+    #[cfg(timed)]
+    use std::cell::Cell;
+    #[cfg(not(timed))]
     use std::cell::RefCell;
 
+    #[cfg(not(timed))]
     thread_local! {
         /// The distances of each dual cell since they were last taken, in the order of the marching cubes tables.
         pub static CELLS: RefCell<Vec<[f32; 8]>> = RefCell::new(Vec::new());
+    }
+
+    #[cfg(timed)]
+    thread_local! {
+        /// The sum of the bits of all distances since it was last set, so that none of them can be left out.
+        pub static SUM: Cell<u64> = const { Cell::new(0) };
     }
 
     pub fn get_offset(_: f32, _: f32) -> f32 {
@@ -77,9 +93,16 @@ mod marching_cubes_impl {
         from
     }
 
+    #[cfg(not(timed))]
     pub fn march_cube<E: FnMut(usize)>(distances: &[f32; 8], mut edge: E) {
         CELLS.with(|cells| cells.borrow_mut().push(*distances));
         (0..8).for_each(|node| edge(node));
+    }
+
+    #[cfg(timed)]
+    pub fn march_cube<E: FnMut(usize)>(distances: &[f32; 8], _: E) {
+        let bits: u64 = distances.iter().map(|distance| distance.to_bits() as u64).sum();
+        SUM.with(|sum| sum.set(sum.get() + bits));
     }
 }
 
@@ -115,7 +138,10 @@ mod linear_hashed_octree {
 mod linear_hashed_marching_cubes {
     include!(concat!(env!("OUT_DIR"), "/linear_hashed_marching_cubes.rs"));
 
+    #[cfg(not(timed))]
     use marching_cubes_impl::CELLS;
+    #[cfg(timed)]
+    use marching_cubes_impl::SUM;
 
     // The text's own ways to what follows are private, and go on to triangles where they aren't.
 
@@ -127,7 +153,16 @@ mod linear_hashed_marching_cubes {
         LinearHashedMarchingCubes::new(0).compute_primal_vertices(octree)
     }
 
+    /// Searches the eight nodes of each vertex with a level, and sums up the bits of their distances.
+    #[cfg(timed)]
+    pub fn sum_of_dual_cells(octree: &LinearHashedOctree<f32>, vertices: HashMap<Morton, usize>) -> u64 {
+        SUM.with(|sum| sum.set(0));
+        LinearHashedMarchingCubes::new(0).extract_surface(octree, vertices, &mut Vec::new(), &mut 0, |_| ());
+        SUM.with(|sum| sum.get())
+    }
+
     /// For each vertex with a level, the distances and the centres of the eight nodes that the text finds, in corner order.
+    #[cfg(not(timed))]
     pub fn dual_cells(octree: &LinearHashedOctree<f32>, vertices: HashMap<Morton, usize>) -> HashMap<Morton, [(f32, Vec3); 8]> {
         // A map has one order as long as it isn't changed.
         let order: Vec<Morton> = vertices.keys().cloned().collect();
@@ -164,6 +199,9 @@ macro_rules! of_the_text {
         }
     )*};
 }
+
+#[cfg(timed)]
+pub mod timed;
 
 of_the_text! {
     fn level(key: u64) -> usize {
@@ -214,12 +252,12 @@ of_the_text! {
 
     /// The vertices that the text computes for a tree, each with its level, ascending.
     fn compute_primal_vertices(keys: &[u64], leaves: &[u64]) -> Vec<(u64, usize)> {
-        let vertices = linear_hashed_marching_cubes::primal_vertices(&octree_of(keys, leaves));
-        let mut vertices: Vec<_> = vertices.into_iter().map(|(vertex, level)| (number(vertex), level)).collect();
-        vertices.sort();
-        vertices
+        ascending(&linear_hashed_marching_cubes::primal_vertices(&octree_of(keys, leaves)))
     }
+}
 
+#[cfg(not(timed))]
+of_the_text! {
     /// For each vertex with a level, the places of the eight nodes of a tree that the search of `extract_surface` finds, in corner
     /// order; none, where it finds nothing.
     fn search_eight_nodes(keys: &[u64], leaves: &[u64], vertices: &[(u64, usize)]) -> Vec<[Option<usize>; 8]> {
@@ -289,6 +327,14 @@ fn in_asked_order(nodes: &[(Morton, f32)], samples: &[([f32; 3], f32)]) -> Vec<N
         (number(key), point, key.size(), distance)
     });
     with_sample.collect()
+}
+
+/// Vertices and their levels, ascending.
+#[cfg(published_text)]
+fn ascending(vertices: &HashMap<Morton, usize>) -> Vec<(u64, usize)> {
+    let mut vertices: Vec<_> = vertices.iter().map(|(&vertex, &level)| (number(vertex), level)).collect();
+    vertices.sort();
+    vertices
 }
 
 /// The published text hands its number out as `usize` alone.

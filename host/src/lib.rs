@@ -171,6 +171,7 @@ impl fmt::Display for Refusal {
 impl Error for Refusal {}
 
 /// The result of a call, unless the number that it returned is a refusal.
+#[inline]
 fn accepted<T>(number: u32, result: T) -> Result<T, Refusal> {
     match number {
         0 => Ok(result),
@@ -291,6 +292,7 @@ impl State {
     }
 
     /// The key of the cell whose distance is asked for, unless the build is finished.
+    #[inline]
     pub fn asked(&self) -> Option<u64> {
         Some(self.0[3]).filter(|&key| key != 0)
     }
@@ -311,6 +313,7 @@ impl State {
 }
 
 /// Begins a build of a depth bound (0 to 15) in the tables, none of which is read or written yet, and asks for the root.
+#[inline]
 pub fn start(bound: u32, tables: &Tables) -> Result<(State, Request), Refusal> {
     let mut state = [0; 8];
     let (mut key, [mut x, mut y, mut z, mut half]) = (0, [0.0; 4]);
@@ -338,6 +341,7 @@ pub fn start(bound: u32, tables: &Tables) -> Result<(State, Request), Refusal> {
 }
 
 /// Takes the distance of the cell that is asked for, and says which is asked for next; none, where the build is finished.
+#[inline]
 pub fn distance(state: &mut State, tables: &mut Tables, distance: f32) -> Result<Option<Request>, Refusal> {
     let (mut key, [mut x, mut y, mut z, mut half]) = (0, [0.0; 4]);
     let number = unsafe {
@@ -433,6 +437,7 @@ fn around(dual_cell: impl FnOnce(&mut [u64; 8], &mut [f32; 8], &mut u32) -> u32)
 impl<'a> Tree<'a> {
     /// Whether the tree is sound: as many keys as distances; keys strictly ascending, first 1, all cell keys of level at most 15;
     /// each other key's parent present; each key with all eight children or none; the leaves exactly those with none, ascending.
+    #[inline]
     pub fn sound(&self) -> bool {
         let sound = with_tree!(mittenhelm_sound, self);
         sound != 0
@@ -448,11 +453,13 @@ impl<'a> Tree<'a> {
     }
 
     /// The deepest present of a cell key and its ancestors of level 1 or more.
+    #[inline]
     pub fn look_up(&self, key: u64) -> Result<Lookup, Refusal> {
         looked_up(|found, distance, tried| with_tree!(mittenhelm_look_up, self, key, found, distance, tried))
     }
 
     /// Writes every vertex with its level, ascending, from a start place on into both tables. The answer is their number.
+    #[inline]
     pub fn list(&self, start: usize, vertices: &mut [u64], levels: &mut [u8]) -> Result<usize, Refusal> {
         let mut count = 0;
         let number = with_tree!(
@@ -469,6 +476,7 @@ impl<'a> Tree<'a> {
     }
 
     /// The deepest ancestors of the cells of the level on the eight sides of an inner vertex.
+    #[inline]
     pub fn dual_cell(&self, vertex: u64, level: u32) -> Result<DualCell, Refusal> {
         around(|keys, distances, tried| with_tree!(mittenhelm_dual_cell, self, vertex, level, keys, distances, tried))
     }

@@ -62,29 +62,19 @@ pub fn field(kind: Kind, bound: u32, random: &mut Random) -> Box<Field> {
     match kind {
         Kind::Sphere => {
             let (centre, radius) = (random.point(), 0.1 + 0.3 * random.fraction());
-            focused(bound, random, move |p| length(minus(p, centre)) - radius)
+            focused(bound, random, sphere(centre, radius))
         }
         Kind::Cuboid => {
             let (centre, half) = (random.point(), 0.05 + 0.2 * random.fraction());
-            focused(bound, random, move |p| {
-                let [x, y, z] = minus(p, centre).map(f32::abs);
-                x.max(y).max(z) - half
-            })
+            focused(bound, random, cuboid(centre, half))
         }
         Kind::Torus => {
             let (centre, ring, tube) = (random.point(), 0.2 + 0.1 * random.fraction(), 0.05 + 0.05 * random.fraction());
-            focused(bound, random, move |p| {
-                let [x, y, z] = minus(p, centre);
-                length([length([x, y, 0.0]) - ring, z, 0.0]) - tube
-            })
+            focused(bound, random, torus(centre, ring, tube))
         }
         Kind::Gyroid => {
             let shift = random.point();
-            focused(bound, random, move |p| {
-                let [x, y, z] = minus(p, shift);
-                let quarter = 0.25;
-                0.2 * (wave(x) * wave(y + quarter) + wave(y) * wave(z + quarter) + wave(z) * wave(x + quarter))
-            })
+            focused(bound, random, gyroid(shift))
         }
         Kind::Plane => {
             let (through, [a, b, c]) = (random.point(), random.point());
@@ -155,6 +145,42 @@ pub fn field(kind: Kind, bound: u32, random: &mut Random) -> Box<Field> {
                 noise.signed(f32::from_bits(bits))
             })
         }
+    }
+}
+
+pub fn sphere(centre: [f32; 3], radius: f32) -> impl Fn([f32; 3]) -> f32 {
+    move |p| length(minus(p, centre)) - radius
+}
+
+/// A cube, by the greatest of the distances on the axes.
+pub fn cuboid(centre: [f32; 3], half: f32) -> impl Fn([f32; 3]) -> f32 {
+    move |p| {
+        let [x, y, z] = minus(p, centre).map(f32::abs);
+        x.max(y).max(z) - half
+    }
+}
+
+pub fn torus(centre: [f32; 3], ring: f32, tube: f32) -> impl Fn([f32; 3]) -> f32 {
+    move |p| {
+        let [x, y, z] = minus(p, centre);
+        length([length([x, y, 0.0]) - ring, z, 0.0]) - tube
+    }
+}
+
+/// Of period 1.
+pub fn gyroid(shift: [f32; 3]) -> impl Fn([f32; 3]) -> f32 {
+    move |p| {
+        let [x, y, z] = minus(p, shift);
+        let quarter = 0.25;
+        0.2 * (wave(x) * wave(y + quarter) + wave(y) * wave(z + quarter) + wave(z) * wave(x + quarter))
+    }
+}
+
+/// Rods along the axes, crossing in the middle of each cube of side 1.
+pub fn lattice(shift: [f32; 3], radius: f32) -> impl Fn([f32; 3]) -> f32 {
+    move |p| {
+        let [x, y, z] = minus(p, shift).map(|t| t - t.floor() - 0.5);
+        length([x, y, 0.0]).min(length([y, z, 0.0])).min(length([z, x, 0.0])) - radius
     }
 }
 

@@ -1,0 +1,139 @@
+//! What is measured of ours: each call as a host makes it, over tables that it lends.
+
+use mittenhelm::{distance, start, DualCell, Lookup, Refusal, Request, State, Tables, Tree};
+
+/// No build has more nodes.
+pub const MOST_NODES: usize = 4096;
+
+/// So many places are enough for the leaves, and for the queue, of every tree of so many nodes.
+const MOST_LEAVES: usize = (7 * MOST_NODES + 1) / 8;
+
+/// More vertices than any tree here has.
+const MOST_VERTICES: usize = 3 * MOST_NODES;
+
+/// The memory of a build.
+pub struct Building {
+    keys: Vec<u64>,
+    distances: Vec<f32>,
+    leaves: Vec<u64>,
+    queue: Vec<u64>,
+}
+
+impl Building {
+    pub fn new() -> Self {
+        Building {
+            keys: vec![0; MOST_NODES],
+            distances: vec![0.0; MOST_NODES],
+            leaves: vec![0; MOST_LEAVES],
+            queue: vec![0; MOST_LEAVES],
+        }
+    }
+
+    /// Builds a tree from the distances that are given for its requests, one after another.
+    pub fn build(&mut self, bound: u32, mut distance_of: impl FnMut(Request) -> f32) -> Result<State, Refusal> {
+        let mut tables = self.tables();
+        let (mut state, mut request) = start(bound, &tables)?;
+        loop {
+            match distance(&mut state, &mut tables, distance_of(request))? {
+                Some(next) => request = next,
+                None => return Ok(state),
+            }
+        }
+    }
+
+    /// The same from distances that are ready, in the order in which they are asked for.
+    pub fn build_ready(&mut self, bound: u32, distances: &[f32]) -> Result<State, Refusal> {
+        let mut asked = 0;
+        self.build(bound, |_| {
+            asked += 1;
+            distances[asked - 1]
+        })
+    }
+
+    pub fn finished(&mut self, state: State) -> Finished {
+        let tables = self.tables();
+        let tree = state.tree(&tables).expect("a finished build");
+        Finished { keys: tree.keys.to_vec(), distances: tree.distances.to_vec(), leaves: tree.leaves.to_vec() }
+    }
+
+    fn tables(&mut self) -> Tables<'_> {
+        Tables { keys: &mut self.keys, distances: &mut self.distances, leaves: &mut self.leaves, queue: &mut self.queue }
+    }
+}
+
+impl Default for Building {
+    fn default() -> Self {
+        Building::new()
+    }
+}
+
+/// A finished tree.
+#[derive(Clone)]
+pub struct Finished {
+    pub keys: Vec<u64>,
+    pub distances: Vec<f32>,
+    pub leaves: Vec<u64>,
+}
+
+impl Finished {
+    pub fn tree(&self) -> Tree<'_> {
+        Tree { keys: &self.keys, distances: &self.distances, leaves: &self.leaves }
+    }
+}
+
+/// The memory of a list.
+pub struct Listing {
+    vertices: Vec<u64>,
+    levels: Vec<u8>,
+    count: usize,
+}
+
+impl Listing {
+    pub fn new() -> Self {
+        Listing { vertices: vec![0; MOST_VERTICES], levels: vec![0; MOST_VERTICES], count: 0 }
+    }
+
+    /// Lists a tree's vertices, and says how many there are.
+    pub fn list(&mut self, tree: Tree) -> usize {
+        self.count = tree.list(0, &mut self.vertices, &mut self.levels).expect("a sound tree, and room");
+        self.count
+    }
+
+    /// The vertices listed last, with their levels.
+    pub fn listed(&self) -> impl Iterator<Item = (u64, u32)> + '_ {
+        self.vertices.iter().zip(&self.levels).take(self.count).map(|(&vertex, &level)| (vertex, level.into()))
+    }
+
+    /// Finds the dual cell of each vertex listed last; the sum of the bits of their distances.
+    pub fn dual_cells(&self, tree: Tree) -> u64 {
+        let bits = |cell: DualCell| cell.distances.iter().map(|distance| distance.to_bits() as u64).sum::<u64>();
+        self.listed().map(|(vertex, level)| bits(dual_cell(tree, vertex, level))).sum()
+    }
+}
+
+impl Default for Listing {
+    fn default() -> Self {
+        Listing::new()
+    }
+}
+
+/// Looks up each key; the sum of the keys found and of the bits of their distances.
+pub fn look_ups(tree: Tree, keys: &[u64]) -> u64 {
+    keys.iter().fold(0, |sum, &key| match look_up(tree, key) {
+        Lookup::Found { key, distance, .. } => sum.wrapping_add(key).wrapping_add(distance.to_bits() as u64),
+        Lookup::Nothing { .. } => sum,
+    })
+}
+
+// The two calls that read one place of a tree: here alone is it chosen which form of them is measured.
+
+/// Said of that form in the report.
+pub const FORM: &str = "the checked calls, each of which sees first that the tree is sound";
+
+pub fn dual_cell(tree: Tree, vertex: u64, level: u32) -> DualCell {
+    tree.dual_cell(vertex, level).expect("a sound tree and its vertex")
+}
+
+fn look_up(tree: Tree, key: u64) -> Lookup {
+    tree.look_up(key).expect("a sound tree and a cell key")
+}

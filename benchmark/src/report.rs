@@ -1,0 +1,256 @@
+//! The report, in Markdown: the text is fixed, the numbers are those of a run.
+
+use crate::machine;
+use crate::measures::{Measure, Row, Times, MEASURES};
+use crate::ours::FORM;
+use crate::trees::{is_near, SIZES};
+
+/// From this line on a written report is kept as it is when another is written over it.
+pub const KEPT_FROM: &str = "## Below the goal";
+
+/// A report with the hand-written end of an earlier one, if there is one.
+pub fn with_kept_end(report: &str, earlier: &str) -> String {
+    match earlier.lines().position(|line| line == KEPT_FROM) {
+        Some(line) => {
+            let kept: Vec<&str> = earlier.lines().skip(line).collect();
+            format!("{report}\n{}\n", kept.join("\n"))
+        }
+        None => report.to_string(),
+    }
+}
+
+pub fn report(rows: &[Row]) -> String {
+    let mut sections = vec![
+        introduction(),
+        "## Ratios".to_string(),
+        ratios(rows),
+        "## Growth".to_string(),
+        "Nanoseconds for each node, or for each lookup, as a geometric mean over the fields, for trees near each number of nodes; and the \
+         exponent e of the best fit of time to nodes^e over all trees."
+            .to_string(),
+        growth(rows),
+    ];
+    for (i, measure) in MEASURES.iter().enumerate() {
+        sections.push(format!("## Each tree: {}", measure.name()));
+        sections.push(each_tree(rows, i));
+    }
+    sections.join("\n\n") + "\n"
+}
+
+fn introduction() -> String {
+    format!(
+        "# Benchmark
+
+`tools/benchmark --write` writes this page: the numbers are those of its run, and what stands from \"{end}\" on is kept.
+
+Ours, proved and called through the C boundary as a host calls it, against the published Rust of isosurface 0.0.4, compiled from its own \
+text: the same trees in one run, native code on both sides. Before a tree is timed, both sides are seen to give the same nodes, leaves, vertices \
+with levels, dual cells and lookups.
+
+{machine}
+
+## How it was measured
+
+- **Trees.** Five fields, and of each a tree near each of {sizes} nodes, the first exactly and none above the last.
+- **The Rust, twice.** As published, and with only `level` replaced by an integer rule. The published `level` is wrong at each power of 8, and so \
+builds another tree for many fields; trees were chosen for which it builds the same one, where there are such near the number of nodes. There are none of 73 \
+nodes, since it always splits key 64. Both builds have the same text but for `level`, which takes a logarithm as published and a count of leading zeros in the \
+other, the quickest way there is: so the second is the quicker one, in building and in listing. The search for dual cells and the lookups need no \
+`level`.
+- **Build.** The distances are ready in a table, and both sides take the next one for each cell asked for, so that the field costs nothing. Both \
+compute the cell's centre and put it into memory. The Rust's time includes its memory from the heap and giving it back, since it can't do without; ours \
+works in tables that are lent.
+- **List.** Ours writes all vertices, ascending, into lent tables; the Rust makes its hash map.
+- **All dual cells.** For each vertex of the list the eight nodes. Of the Rust this is the search in `extract_surface`, with nothing of the triangles. \
+Both sides sum up the distances found. Ours uses {form}.
+- **Lookups.** 10,000 random cell keys, each level from 0 to 21 as often as the others: the deepest present of the key and its ancestors. Of the Rust, \
+`get_node` on each of them in turn. Ours uses the same form of call.
+- **Soundness** is ours alone: whether the tables hold a sound tree.
+- **Times** are the best of batches of calls. The sides take turns, a batch each, until each has had 50 milliseconds at least, so that a change of the \
+machine's speed meets both. A ratio is the Rust's time by ours: above 1, ours is the quicker.",
+        end = KEPT_FROM.trim_start_matches("## "),
+        machine = machine::described(),
+        sizes = listed(&SIZES),
+        form = FORM,
+    )
+}
+
+fn listed(numbers: &[usize]) -> String {
+    let words: Vec<String> = numbers.iter().map(|&n| grouped(n)).collect();
+    let (last, others) = words.split_last().expect("a number");
+    format!("{} and {last}", others.join(", "))
+}
+
+/// With a comma between thousands.
+fn grouped(n: usize) -> String {
+    match n {
+        0..=999 => n.to_string(),
+        _ => format!("{},{:03}", grouped(n / 1000), n % 1000),
+    }
+}
+
+/// A side's time, if it has one.
+type Side = fn(&Times) -> Option<f64>;
+
+/// The Rust's time by ours, in the trees that have both.
+fn ratios_of(rows: &[Row], measure: usize, rust: Side) -> Vec<f64> {
+    rows.iter().filter_map(|row| Some(rust(&row.times[measure])? / row.times[measure].ours)).collect()
+}
+
+fn ratios(rows: &[Row]) -> String {
+    let mut table = Table::new(&["", "goal", "the Rust", "trees", "geometric mean", "least", "greatest"]);
+    for (i, measure) in MEASURES.iter().enumerate() {
+        let builds: [(&str, Side); 2] =
+            [("as published", |times| times.published), ("with the integer level", |times| times.integer)];
+        for (build, rust) in builds {
+            let ratios = ratios_of(rows, i, rust);
+            if !ratios.is_empty() {
+                table.add(vec![
+                    measure.name().to_string(),
+                    measure.goal().map_or(String::new(), |goal| format!("at least {goal}")),
+                    build.to_string(),
+                    ratios.len().to_string(),
+                    format!("{:.2}", geometric_mean(&ratios)),
+                    format!("{:.2}", ratios.iter().copied().fold(f64::INFINITY, f64::min)),
+                    format!("{:.2}", ratios.iter().copied().fold(0.0, f64::max)),
+                ]);
+            }
+        }
+    }
+    table.text()
+}
+
+fn growth(rows: &[Row]) -> String {
+    let mut head = vec!["".to_string(), "side".to_string()];
+    head.extend(SIZES.iter().map(|&size| grouped(size)));
+    head.push("exponent".to_string());
+    let mut table = Table { lines: vec![head] };
+    let sides: [(&str, Side); 3] =
+        [("ours", |times| Some(times.ours)), ("as published", |times| times.published), ("integer level", |times| times.integer)];
+    for (i, measure) in MEASURES.iter().enumerate() {
+        for (side, time) in sides {
+            let points: Vec<(f64, f64)> =
+                rows.iter().filter_map(|row| Some((row.case.nodes() as f64, time(&row.times[i])?))).collect();
+            if points.is_empty() {
+                continue;
+            }
+            let mut line = vec![measure.name().to_string(), side.to_string()];
+            line.extend(SIZES.iter().map(|&size| per_item(*measure, &points, size)));
+            line.push(exponent(&points).map_or(String::new(), |e| format!("{e:.2}")));
+            table.add(line);
+        }
+    }
+    table.text()
+}
+
+/// Nanoseconds for each node or lookup, for the trees near a size.
+fn per_item(measure: Measure, points: &[(f64, f64)], size: usize) -> String {
+    let near = points.iter().filter(|&&(nodes, _)| is_near(nodes as usize, size));
+    let costs: Vec<f64> = near.map(|&(nodes, time)| 1e9 * time / measure.items(nodes)).collect();
+    if costs.is_empty() {
+        return String::new();
+    }
+    significant(geometric_mean(&costs))
+}
+
+fn each_tree(rows: &[Row], measure: usize) -> String {
+    let mut table = Table::new(&[
+        "field",
+        "bound",
+        "nodes",
+        "leaves",
+        "vertices",
+        "ours µs",
+        "as published µs",
+        "ratio",
+        "integer level µs",
+        "ratio",
+    ]);
+    for row in rows {
+        let times = row.times[measure];
+        let mut line = vec![row.case.field.to_string()];
+        line.extend([row.case.bound as usize, row.case.nodes(), row.leaves, row.vertices].map(grouped));
+        line.push(significant(1e6 * times.ours));
+        for time in [times.published, times.integer] {
+            line.push(time.map_or(String::new(), |time| significant(1e6 * time)));
+            line.push(time.map_or(String::new(), |time| format!("{:.2}", time / times.ours)));
+        }
+        table.add(line);
+    }
+    table.text()
+}
+
+/// Three digits, or all those before the point.
+fn significant(x: f64) -> String {
+    let after_point = (2 - x.log10().floor() as i32).clamp(0, 9) as usize;
+    format!("{x:.after_point$}")
+}
+
+pub fn geometric_mean(numbers: &[f64]) -> f64 {
+    (numbers.iter().map(|x| x.ln()).sum::<f64>() / numbers.len() as f64).exp()
+}
+
+/// The exponent of the best fit, by least squares of logarithms. None, where all are of one size.
+pub fn exponent(points: &[(f64, f64)]) -> Option<f64> {
+    let logs: Vec<(f64, f64)> = points.iter().map(|(x, y)| (x.ln(), y.ln())).collect();
+    let count = logs.len() as f64;
+    let (x_mean, y_mean) = (logs.iter().map(|p| p.0).sum::<f64>() / count, logs.iter().map(|p| p.1).sum::<f64>() / count);
+    let spread: f64 = logs.iter().map(|p| (p.0 - x_mean).powi(2)).sum();
+    let together: f64 = logs.iter().map(|p| (p.0 - x_mean) * (p.1 - y_mean)).sum();
+    Some(together / spread).filter(|_| spread > 0.0)
+}
+
+/// A table of Markdown with its columns in line, so that it reads well on a terminal too.
+struct Table {
+    lines: Vec<Vec<String>>,
+}
+
+impl Table {
+    fn new(head: &[&str]) -> Self {
+        Table { lines: vec![head.iter().map(|word| word.to_string()).collect()] }
+    }
+
+    fn add(&mut self, line: Vec<String>) {
+        self.lines.push(line);
+    }
+
+    fn text(&self) -> String {
+        let columns = self.lines[0].len();
+        let width = |column: usize| self.lines.iter().map(|line| line[column].chars().count()).max().unwrap_or(0).max(4);
+        let widths: Vec<usize> = (0..columns).map(width).collect();
+        let row = |line: &Vec<String>| {
+            let cells: Vec<String> =
+                line.iter().zip(&widths).enumerate().map(|(i, (cell, &width))| self.padded(i, cell, width)).collect();
+            format!("| {} |", cells.join(" | "))
+        };
+        let rule =
+            (0..columns).map(|i| if self.is_of_words(i) { "-".repeat(widths[i]) } else { "-".repeat(widths[i] - 1) + ":" });
+        let rule = format!("| {} |", rule.collect::<Vec<_>>().join(" | "));
+        let mut lines = vec![row(&self.lines[0]), rule];
+        lines.extend(self.lines[1..].iter().map(row));
+        lines.join("\n")
+    }
+
+    fn padded(&self, column: usize, cell: &str, width: usize) -> String {
+        if self.is_of_words(column) {
+            format!("{cell:width$}")
+        } else {
+            format!("{cell:>width$}")
+        }
+    }
+
+    /// Words stand to the left, numbers to the right.
+    fn is_of_words(&self, column: usize) -> bool {
+        self.lines[1..].iter().any(|line| line[column].starts_with(|c: char| c.is_alphabetic()))
+    }
+}
+
+/// Which measures are below their goal, against the Rust as published.
+pub fn below_goal(rows: &[Row]) -> Vec<Measure> {
+    let is_below = |&(i, measure): &(usize, Measure)| {
+        let ratios = ratios_of(rows, i, |times| times.published);
+        let goal = measure.goal().filter(|_| !ratios.is_empty());
+        matches!(goal, Some(goal) if geometric_mean(&ratios) < goal)
+    };
+    MEASURES.iter().copied().enumerate().filter(is_below).map(|(_, measure)| measure).collect()
+}
