@@ -11,14 +11,14 @@ use lib.Bits.{bitAnd, and-le-l}
 use lib.Dec.{eqb, ltb}
 use lib.ListN.{length, getD}
 use lib.Pow.{pow-add, pow-lt, pow-pos, pow-mono, high, shr-shr, shl-exact}
-use borrow.Author.Tests.{ltb-true, lt-ltb, eqb-true, eq-eqb, ne-eqb}
+use borrow.Author.Tests.{ltb-true, lt-ltb, le-leb, lt-leb, eqb-true, eq-eqb, ne-eqb}
 use Rattle.morton.specs.Field.{bit}
 use Rattle.morton.specs.Level.{if₀}
 use Rattle.morton.proofs.Fields.{bit-le, div-step, mul-step}
 use Rattle.morton.proofs.Levels.{and-true}
 use Rattle.tree.specs.Tree.{StandsAt, Decides}
 use Rattle.tree.specs.Climb.{firstFrom, standsAt}
-use Rattle.vertices.specs.Walk.{childrenAt, childSplit}
+use Rattle.vertices.specs.Walk.{childrenAt, reached, childSplit}
 use Rattle.vertices.specs.Block.{marked, ChildMarks, BelowMarks, Gaps, loweredMark, LoweredMarks}
 use Rattle.vertices.proofs.Offsets.{and-bit}
 
@@ -157,36 +157,54 @@ module _ (ks : List ℕ) (at x : ℕ) where
       go true e = absurd (n (yes-stands e))
       go false e = e
 
+-- no child of p, where the last key is below
+pub told-past : (ks : List ℕ) (p : ℕ) → getD ks (length ks - 1) 0 < 64 * p → ChildMarks ks p 0
+unfolding reached childSplit
+told-past ks p h =
+    record {
+      small = omega arith;
+      marks = λ w l. marked-zero w ∙ sym (ap (λ (r : Bool). r && standsAt ks (length ks) (childrenAt ks p w) (8 * (8 * p + w))) (lt-leb _ _ h));
+    }
+
 -- so far w children of p are told, and the next one's children would stand at the place
 pub record Told (ks : List ℕ) (p w at mask : ℕ) : Type 0 where
+  pub reach : reached ks p ≡ true
   pub place : at ≡ childrenAt ks p w
   pub filled : Filled (λ i. childSplit ks p i ≡ true) w mask
 
 module _ (ks : List ℕ) (p : ℕ) where
-  pub told-none : (at : ℕ) → at ≡ firstFrom ks (length ks) (64 * p) → Told ks p 0 at 0
-  unfolding childrenAt
-  told-none at e = record { place = e; filled = filled-none (λ i. childSplit ks p i ≡ true) }
+  pub told-none : 64 * p ≤ getD ks (length ks - 1) 0 → (at : ℕ) → at ≡ firstFrom ks (length ks) (64 * p) → Told ks p 0 at 0
+  unfolding childrenAt reached
+  told-none h at e = record { reach = le-leb _ _ h; place = e; filled = filled-none (λ i. childSplit ks p i ≡ true) }
 
   module _ (w at mask : ℕ) (h : w < 8) (s : Told ks p w at mask) where
+    stands-is : (r : Bool) → standsAt ks (length ks) at (64 * p + 8 * w) ≡ r → standsAt ks (length ks) (childrenAt ks p w) (8 * (8 * p + w)) ≡ r
+    stands-is r e = ap₂ (standsAt ks (length ks)) (sym (s .place)) (omega arith) ∙ e
+
     split-is : (r : Bool) → standsAt ks (length ks) at (64 * p + 8 * w) ≡ r → childSplit ks p w ≡ r
     unfolding childSplit
-    split-is r e = ap₂ (standsAt ks (length ks)) (sym (s .place)) (omega arith) ∙ e
+    split-is r e = ap₂ _&&_ (s .reach) (stands-is r e)
 
-    next : (r : Bool) → childSplit ks p w ≡ r → childrenAt ks p (w + 1) ≡ at + if₀ r 8 0
-    unfolding childrenAt childSplit
-    next r e = ap (childrenAt ks p) (add-one w) ∙ ap₂ (λ (n : ℕ) (t : Bool). n + if₀ t 8 0) (sym (s .place)) e
+    next : (r : Bool) → standsAt ks (length ks) at (64 * p + 8 * w) ≡ r → childrenAt ks p (w + 1) ≡ at + if₀ r 8 0
+    unfolding childrenAt
+    next r e = ap (childrenAt ks p) (add-one w) ∙ ap₂ (λ (n : ℕ) (t : Bool). n + if₀ t 8 0) (sym (s .place)) (stands-is r e)
 
     pub told-yes : StandsAt ks at (64 * p + 8 * w) → Told ks p (w + 1) (at + 8) (mask + (1 * 2 ^ w) % 2 ^ 64)
     told-yes st =
-        let e : childSplit ks p w ≡ true = split-is true (stands-yes ks at (64 * p + 8 * w) st) in
-        record { place = sym (next true e); filled = filled-yes (λ i. childSplit ks p i ≡ true) w mask (omega arith) e (s .filled) }
+        let e : standsAt ks (length ks) at (64 * p + 8 * w) ≡ true = stands-yes ks at (64 * p + 8 * w) st in
+        record {
+          reach = s .reach;
+          place = sym (next true e);
+          filled = filled-yes (λ i. childSplit ks p i ≡ true) w mask (omega arith) (split-is true e) (s .filled);
+        }
 
     pub told-no : (StandsAt ks at (64 * p + 8 * w) → ⊥) → Told ks p (w + 1) at mask
     told-no st =
-        let e : childSplit ks p w ≡ false = split-is false (stands-no ks at (64 * p + 8 * w) st) in
+        let e : standsAt ks (length ks) at (64 * p + 8 * w) ≡ false = stands-no ks at (64 * p + 8 * w) st in
         record {
+          reach = s .reach;
           place = omega (arith, next false e);
-          filled = filled-no (λ i. childSplit ks p i ≡ true) w mask (λ t. true≢false (sym t ∙ e)) (s .filled);
+          filled = filled-no (λ i. childSplit ks p i ≡ true) w mask (λ t. true≢false (sym t ∙ split-is false e)) (s .filled);
         }
 
     pub told-fits : mask + (1 * 2 ^ w) % 2 ^ 64 < 2 ^ 64

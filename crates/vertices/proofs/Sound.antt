@@ -20,7 +20,7 @@ use Rattle.tree.specs.Climb.{firstFrom, standsAt}
 use Rattle.tree.proofs.Halving.{FirstFrom, first-from, order}
 use Rattle.tree.proofs.Lists.{in-at, in-cast, stands-in}
 use Rattle.tree.proofs.Pass.{said, denied}
-use Rattle.vertices.specs.Walk.{childrenAt, childSplit, rootSplit, isSplit, splitAt, near, over, entry, divided}
+use Rattle.vertices.specs.Walk.{childrenAt, reached, childSplit, rootSplit, isSplit, splitAt, near, over, entry, divided}
 use Rattle.vertices.proofs.Offsets.{Within, within-or-not, near-cell, cube-in, cube-out}
 use Rattle.vertices.proofs.Entries.{over-same, split-deep, split-low, entry-in, entry-out, from, fine-down}
 use Rattle.vertices.proofs.Marks.{stands-yes, yes-stands}
@@ -136,6 +136,14 @@ module _ (ks : List ℕ) where
 
     -- ---- which nodes are split
 
+    -- no key is above the last
+    last-most : (k : ℕ) → In k ks → k ≤ getD ks (length ks - 1) 0
+    last-most k m =
+        elim (decLt (m .place) (length ks - 1)) [
+          | yes l ↦ omega (arith, t .sound .ascending (m .place) (length ks - 1) l (omega (arith, m .inside)), m .here)
+          | no n ↦ let e : m .place ≡ length ks - 1 = omega (arith, m .inside) in omega (arith, ap (λ (i : ℕ). getD ks i 0) e, m .here)
+        ]
+
     stands-decides : (at x : ℕ) → FirstFrom ks x at → Decides (standsAt ks (length ks) at x) (In x ks)
     stands-decides at x f = go (standsAt ks (length ks) at x) refl
       where
@@ -144,11 +152,14 @@ module _ (ks : List ℕ) where
         go false e = λ m. true≢false (sym (stands-yes ks at x (first-stands ks (t .sound .ascending) x at f m)) ∙ e)
 
     module _ (p : ℕ) (split : In (8 * p) ks) where
+      abbrev Stands : ℕ → Bool
+      Stands w = standsAt ks (length ks) (childrenAt ks p w) (8 * (8 * p + w))
+
       -- the children's children, where they would stand
       first-at : (w : ℕ) → w ≤ 8 → FirstFrom ks (64 * p + 8 * w) (childrenAt ks p w)
-      unfolding childrenAt childSplit
+      unfolding childrenAt
       first-at zero h = let z : 64 * p + 8 * 0 ≡ 64 * p = omega arith in rw z (first-from ks (t .sound .ascending) (64 * p))
-      first-at (suc w) h = go (childSplit ks p w) refl (first-at w (omega arith))
+      first-at (suc w) h = go (Stands w) refl (first-at w (omega arith))
         where
           next : 64 * p + 8 * w + 8 ≡ 64 * p + 8 * suc w
           next = omega arith
@@ -156,16 +167,17 @@ module _ (ks : List ℕ) where
           child : (i : ℕ) → 8 * (8 * p + w) + i ≡ 64 * p + 8 * w + i
           child i = omega arith
 
-          go : (r : Bool) → childSplit ks p w ≡ r → FirstFrom ks (64 * p + 8 * w) (childrenAt ks p w)
-              → FirstFrom ks (64 * p + 8 * suc w) (childrenAt ks p w + if₀ (childSplit ks p w) 8 0)
+          go : (r : Bool) → Stands w ≡ r → FirstFrom ks (64 * p + 8 * w) (childrenAt ks p w)
+              → FirstFrom ks (64 * p + 8 * suc w) (childrenAt ks p w + if₀ (Stands w) 8 0)
           go true e f =
               let m : In (8 * (8 * p + w)) ks = stands-in (yes-stands ks (childrenAt ks p w) (8 * (8 * p + w)) e) in
               subst (λ (r : Bool). FirstFrom ks (64 * p + 8 * suc w) (childrenAt ks p w + if₀ r 8 0)) (sym e)
               (subst (λ (n : ℕ). FirstFrom ks n (childrenAt ks p w + 8)) next
-              (first-run ks (t .sound .ascending) 8 (64 * p + 8 * w) (childrenAt ks p w) (λ i l. in-cast (omega (arith, child i)) (split-children (8 * p + w) m i l)) f))
+              (first-run ks (t .sound .ascending) 8 (64 * p + 8 * w) (childrenAt ks p w)
+              (λ i l. in-cast (omega (arith, child i)) (split-children (8 * p + w) m i l)) f))
           go false e f =
               let g : FirstFrom ks (8 * (8 * p + w)) (childrenAt ks p w) = subst (λ (k : ℕ). FirstFrom ks k (childrenAt ks p w)) (omega arith) f in
-              let n : In (8 * (8 * p + w)) ks → ⊥ = denied (childSplit ks p w) _ e (stands-decides (childrenAt ks p w) (8 * (8 * p + w)) g) in
+              let n : In (8 * (8 * p + w)) ks → ⊥ = denied (Stands w) _ e (stands-decides (childrenAt ks p w) (8 * (8 * p + w)) g) in
               let z : childrenAt ks p w ≡ childrenAt ks p w + 0 = omega arith in
               subst (λ (r : Bool). FirstFrom ks (64 * p + 8 * suc w) (childrenAt ks p w + if₀ r 8 0)) (sym e)
               (subst (λ (n : ℕ). FirstFrom ks n (childrenAt ks p w + 0)) next
@@ -177,9 +189,14 @@ module _ (ks : List ℕ) where
               f)))
 
       child-decides : (w : ℕ) → w < 8 → Decides (childSplit ks p w) (In (8 * (8 * p + w)) ks)
-      unfolding childSplit
+      unfolding childSplit reached
       child-decides w h =
-          stands-decides (childrenAt ks p w) (8 * (8 * p + w)) (subst (λ (k : ℕ). FirstFrom ks k (childrenAt ks p w)) (omega arith) (first-at w (omega arith)))
+          go (leb (64 * p) (getD ks (length ks - 1) 0)) refl (Stands w)
+          (stands-decides (childrenAt ks p w) (8 * (8 * p + w)) (subst (λ (k : ℕ). FirstFrom ks k (childrenAt ks p w)) (omega arith) (first-at w (omega arith))))
+        where
+          go : (r : Bool) → leb (64 * p) (getD ks (length ks - 1) 0) ≡ r → (s : Bool) → Decides s (In (8 * (8 * p + w)) ks) → Decides (r && s) (In (8 * (8 * p + w)) ks)
+          go true e s d = d
+          go false e s d = λ m. omega (arith, leb-false (64 * p) (getD ks (length ks - 1) 0) e, last-most (8 * (8 * p + w)) m)
 
     root-decides : Decides (rootSplit ks) (In 8 ks)
     unfolding rootSplit

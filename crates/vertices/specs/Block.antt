@@ -2,7 +2,7 @@
 use Prim.Native.Nat.{ℕ, _+_, _*_, _-_, _^_, _≤_, _<_}
 use mathlib.Core.Path.{_≡_}
 use mathlib.Core.Bool.{Bool, true, false, _&&_}
-use mathlib.Core.List.{List}
+use mathlib.Core.List.{List, [], _∷_}
 use lib.Bits.{bitAnd, bitXor}
 use lib.Dec.{eqb}
 use lib.ListN.{length, getD, set}
@@ -58,6 +58,14 @@ Lowered b mask q d = (o : ℕ) → o < 8 → getD d o 0 ≡ lowered b mask q o
 pub record LoweredMarks (mask below q r : ℕ) : Type 0 where
   pub small : r < 2 ^ 8
   pub marks : (o : ℕ) → o < 8 → marked r o ≡ loweredMark mask below q o
+
+-- The bits of such a number, for child q: the entries' children that its own entries are.
+abbrev pub seenBy : ℕ → ℕ
+seenBy q = getD (9241421688590303745 ∷ 54043401687662595 ∷ 176265457830405 ∷ 1030792151055 ∷ 2286166545 ∷ 13369395 ∷ 43605 ∷ 255 ∷ []) q 0
+
+-- And the entries that they lie in.
+abbrev pub keptBy : ℕ → ℕ
+keptBy q = getD (255 ∷ 85 ∷ 51 ∷ 17 ∷ 15 ∷ 5 ∷ 3 ∷ 1 ∷ []) q 0
 
 -- Where r is 0, no child that the block of child q has is marked.
 abbrev pub SeenSays : ℕ → ℕ → ℕ → Type 0

@@ -3,7 +3,7 @@ use Prim.Native.Nat.{ℕ, zero, suc, _+_, _*_, _-_, _/_, _%_, _^_}
 use mathlib.Core.Bool.{Bool, true, false, cond, _&&_, _||_}
 use mathlib.Core.List.{List, [], _∷_, _++_}
 use lib.Dec.{eqb, leb, ltb}
-use lib.ListN.{length}
+use lib.ListN.{length, getD}
 use Rattle.morton.specs.Field.{bit, coord, key}
 use Rattle.morton.specs.Level.{deepest, limit, if₀}
 use Rattle.tree.specs.Climb.{firstFrom, standsAt}
@@ -17,9 +17,13 @@ childrenAt ks p zero = firstFrom ks (length ks) (64 * p)
 childrenAt ks p (suc w) =
     childrenAt ks p w + if₀ (standsAt ks (length ks) (childrenAt ks p w) (8 * (8 * p + w))) 8 0
 
+-- The last key is no less than the first of them could be.
+unfoldable pub reached : List ℕ → ℕ → Bool
+reached ks p = leb (64 * p) (getD ks (length ks - 1) 0)
+
 -- They stand there.
 unfoldable pub childSplit : List ℕ → ℕ → ℕ → Bool
-childSplit ks p w = standsAt ks (length ks) (childrenAt ks p w) (8 * (8 * p + w))
+childSplit ks p w = reached ks p && standsAt ks (length ks) (childrenAt ks p w) (8 * (8 * p + w))
 
 unfoldable pub rootSplit : List ℕ → Bool
 rootSplit ks = standsAt ks (length ks) (firstFrom ks (length ks) 8) 8

@@ -2,11 +2,12 @@
 ghost use mathlib.Core.Path.{_≡_};
 ghost use mathlib.Core.Bool.{true, false};
 ghost use Prim.Native.Nat.{_+_, _-_, _*_, _^_, _<_, _≤_};
+ghost use lib.ListN.{length, getD};
 ghost use Rattle.morton.specs.Level.{limit, Cell};
 ghost use Rattle.tree.specs.Tree.{treeOf, Decides};
 ghost use Rattle.vertices.specs.Walk.{divided, lowCorner, walked, spotsOf};
 ghost use Rattle.vertices.specs.Listing.{listsOf, ListSays, TrustingSays};
-ghost use Rattle.vertices.specs.Block.{marked, Here, Small, ChildMarks, BelowMarks, Gaps, SeenSays, Lowered, LoweredMarks, Touched, PutSays, Laid};
+ghost use Rattle.vertices.specs.Block.{seenBy, keptBy, marked, Here, Small, ChildMarks, BelowMarks, Gaps, SeenSays, Lowered, LoweredMarks, Touched, PutSays, Laid};
 
 // How many vertices there are, or the number of the refusal.
 pub enum ListAnswer {
@@ -18,21 +19,6 @@ pub enum ListAnswer {
 // and a mask of those that are split: bit o is set where entry o has the cell's own level and children. Where none is, the walk ends: the cell's low
 // corner is listed, or nothing is.
 
-// For child q, the entries of the parent's block that its own entries lie in: those that are lower on no axis on which q is higher.
-const KEPT: [u64; 8] = [255, 85, 51, 17, 15, 5, 3, 1];
-
-// And which of their children its own entries are, eight bits for each entry.
-const SEEN: [u64; 8] = [
-    0x8040201008040201,
-    0xc00030000c0003,
-    0xa05000000a05,
-    0xf00000000f,
-    0x88442211,
-    0xcc0033,
-    0xaa55,
-    0xff,
-];
-
 // Whether bit i of a mask is set.
 fn marked(mask: u64, i: usize) -> bool
     requires { ⌜ i < 64 ⌝ }
@@ -41,11 +27,26 @@ fn marked(mask: u64, i: usize) -> bool
     (mask >> i) % 2 == 1
 }
 
-// Which children of a node are split themselves. The children of those follow one another, so one search is enough.
+// The last key; 0 where there is none.
+fn last_of(keys: &[u64]) -> u64
+    ensures { λ r. ⌜ r ≡ getD (now (keys .entry)) (length (now (keys .entry)) - 1) 0 ⌝ }
+{
+    let n = keys.len();
+    if n == 0 {
+        return 0;
+    }
+    keys[n - 1]
+}
+
+// Which children of a node are split themselves. The children of those follow one another, so one search is enough, and none where the last key is
+// less than they are: so it is for the deepest split nodes, which are most.
 fn split_children(keys: &[u64], node: u64) -> u64
     requires { ⌜ node < 2 ^ 57 ⌝ }
     ensures { λ r. ⌜ ChildMarks (now (keys .entry)) node r ⌝ }
 {
+    if last_of(keys) < 64 * node {
+        return 0;
+    }
     let mut at = tree::first_from(keys, 64 * node);
     let mut mask = 0;
     let mut w: usize = 0;
@@ -117,12 +118,30 @@ fn lower(block: [u64; 8], mask: u64, q: usize) -> [u64; 8]
     out
 }
 
+// Which children of the parent's entries the entries of child q are, eight bits for each of the parent's. As a choice, it is a table that the
+// compiler leaves in read-only memory; a constant array would be built anew for each child.
+fn seen_by(q: usize) -> u64
+    requires { ⌜ q < 8 ⌝ }
+    ensures { λ r. ⌜ r ≡ seenBy q ⌝ }
+{
+    match q {
+        0 => 0x8040201008040201,
+        1 => 0xc00030000c0003,
+        2 => 0xa05000000a05,
+        3 => 0xf00000000f,
+        4 => 0x88442211,
+        5 => 0xcc0033,
+        6 => 0xaa55,
+        _ => 0xff,
+    }
+}
+
 // The bits of the entries' split children that child q sees. Where there are none, as for most children, its own mask is 0.
 fn seen(below: u64, q: usize) -> u64
     requires { ⌜ q < 8 ⌝ }
     ensures { λ r. ⌜ SeenSays below q r ⌝ }
 {
-    below & SEEN[q]
+    below & seen_by(q)
 }
 
 // The mask of child q.
@@ -151,12 +170,29 @@ fn lower_mask(mask: u64, below: u64, q: usize) -> u64
     out
 }
 
+// Which of the parent's entries the entries of child q lie in: those that are lower on no axis on which q is higher.
+fn kept_by(q: usize) -> u64
+    requires { ⌜ q < 8 ⌝ }
+    ensures { λ r. ⌜ r ≡ keptBy q ⌝ }
+{
+    match q {
+        0 => 255,
+        1 => 85,
+        2 => 51,
+        3 => 17,
+        4 => 15,
+        5 => 5,
+        6 => 3,
+        _ => 1,
+    }
+}
+
 // Whether the low corner of child q is listed, where none of its entries is split.
 fn touched(gaps: u64, mask: u64, q: usize) -> bool
     requires { ⌜ (q < 8) × (mask < 2 ^ 8) × (gaps < 2 ^ 8) ⌝ }
     ensures { λ r. ⌜ Decides r (Touched gaps mask q) ⌝ }
 {
-    let kept = KEPT[q];
+    let kept = kept_by(q);
     if gaps & kept != 0 {
         return false;
     }

@@ -1,17 +1,17 @@
 -- `seen` meets its contract, by the rule of its table. Assumes nothing.
+use mathlib.Core.Path.{sym, ap, subst}
 use borrow.Author.Needs.{needs}
+use lib.Bits.{bitAnd}
+use Rattle.vertices.specs.Block.{SeenSays}
 use Rattle.vertices.proofs.Glance.{seen-says}
 use Rattle.vertices.proofs.seen.Statement.{statement}
 use Rattle.vertices.proofs.seen.Tie as tie
 
-mul-result : tie.Need-mul-result
-mul-result c = search needs
-
-array-read-result : tie.Need-array-read-result
-array-read-result c = search needs
+seen-by-requires : tie.Need-seen-by-requires
+seen-by-requires c κs = search needs
 
 returns : tie.Need-returns
-returns c = seen-says _ _ (c .pre)
+returns c = seen-says _ _ _ (c .before .pre) (c .seen-by .ensures)
 
 pub seen-spec : {M : Type 1} → statement M
-seen-spec = tie.close (tie.spec mul-result array-read-result returns)
+seen-spec = tie.close (tie.spec seen-by-requires returns)
