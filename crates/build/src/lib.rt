@@ -58,6 +58,19 @@ fn ask_for(key: u64) -> Request
     }
 }
 
+// The request for the root. Its numbers are written out, so that `ask_for` has one caller and the compiler makes it part of `distance`.
+fn root() -> Request
+    ensures { λ r. ⌜ r ≡ requestOf 1 ⌝ }
+{
+    Request {
+        key: 1,
+        x: 0.5,
+        y: 0.5,
+        z: 0.5,
+        half: 0.5,
+    }
+}
+
 // Where item `item` of a ring sits: most builds never come round, and then nothing is divided.
 fn place(item: usize, length: usize) -> usize
     requires { ⌜ 0 < length ⌝ }
@@ -282,10 +295,9 @@ pub fn start(bound: u32, keys: &[u64], distances: &[f32], leaves: &[u64], queue:
     if bound > morton::LIMIT {
         return Answer::Refused(5);
     }
-    let root = ask_for(1);
     let lengths = lengths_of(keys, distances, leaves, queue);
     Answer::Ask(
-        root,
+        root(),
         State {
             bound: bound,
             nodes: 0,

@@ -10,15 +10,15 @@ returns : tie.Need-returns
 unfolding startOf
 returns c = search called
 
-ask-for-requires : tie.Need-ask-for-requires
-ask-for-requires c κs = search needs
-
 lengths-of-requires : tie.Need-lengths-of-requires
 lengths-of-requires c κs = search needs
 
+root-requires : tie.Need-root-requires
+root-requires c κs = search needs
+
 returns-2 : tie.Need-returns-2
 unfolding startOf
-returns-2 c = rw (le-ltb _ _ (c .before .before .if1 .left), c .before .ask-for .ensures, c .lengths-of .ensures)
+returns-2 c = rw (le-ltb _ _ (c .before .before .if1 .left), c .root .ensures, c .before .lengths-of .ensures)
 
 pub start-spec : {M : Type 1} → statement M
-start-spec = tie.close (tie.spec returns ask-for-requires lengths-of-requires returns-2)
+start-spec = tie.close (tie.spec returns lengths-of-requires root-requires returns-2)
