@@ -119,7 +119,11 @@ static uint64_t answer;
 
 #define BUILDING keys, node_room, distances, node_room, leaves, leaf_room, queue, leaf_room
 #define REQUEST &key_out, &x_out, &y_out, &z_out, &half_out
-#define TREE keys, node_count, distances, node_count, leaves, leaf_count
+#define NODES keys, node_count, distances, node_count
+#define TREE NODES, leaves, leaf_count
+#define LIST 0, vertices, vertex_room, levels, vertex_room, &vertex_count
+#define FOUND &key_out, &distance_out, &number_out
+#define CELL cell_keys, cell_distances, &number_out
 
 CALL(level, (given))
 CALL(is_cell, (given))
@@ -136,14 +140,18 @@ CALL(should_refine, (level, bound, distance))
 CALL(start, (bound, BUILDING, state, MITTENHELM_STATE_WORDS, REQUEST))
 CALL(distance, (state, MITTENHELM_STATE_WORDS, BUILDING, distance, REQUEST))
 CALL(sound, (TREE))
-CALL(look_up, (TREE, given, &key_out, &distance_out, &number_out))
-CALL(list, (TREE, 0, vertices, vertex_room, levels, vertex_room, &vertex_count))
-CALL(dual_cell, (TREE, given, level, cell_keys, cell_distances, &number_out))
+CALL(look_up, (TREE, given, FOUND))
+CALL(list, (TREE, LIST))
+CALL(dual_cell, (TREE, given, level, CELL))
+CALL(look_up_trusting, (NODES, given, FOUND))
+CALL(list_trusting, (keys, node_count, LIST))
+CALL(dual_cell_trusting, (NODES, given, level, CELL))
 CALL(slab, (given, level, exponent, &number_out))
 
 static struct call *const calls[] = {&call_level, &call_is_cell, &call_parent, &call_add, &call_sub, &call_child, &call_half_size,
     &call_centre, &call_vertex, &call_is_inner, &call_side, &call_should_refine, &call_start, &call_distance, &call_sound,
-    &call_look_up, &call_list, &call_dual_cell, &call_slab};
+    &call_look_up, &call_list, &call_dual_cell, &call_look_up_trusting, &call_list_trusting, &call_dual_cell_trusting,
+    &call_slab};
 
 /* Inputs. */
 
@@ -276,14 +284,31 @@ static void build(bool (*is_split)(uint64_t), uint32_t depth_bound, size_t room)
     expect(node_count == nodes_with_queued, "the number of nodes");
 }
 
+/* A call in both its forms, which must answer alike. */
+static void measure_both(struct call *checked, struct call *trusting, uint32_t expected, const char *what)
+{
+    measure(checked);
+    expect(answer == expected, what);
+    measure(trusting);
+    expect(answer == expected, what);
+}
+
 static void list(void)
 {
     vertex_room = 0;
-    measure(&call_list);
-    expect(answer == MITTENHELM_LIST_FULL, "list without room");
+    measure_both(&call_list, &call_list_trusting, MITTENHELM_LIST_FULL, "list without room");
     vertex_room = MOST_VERTICES;
-    measure(&call_list);
-    expect(answer == MITTENHELM_ACCEPTED, "list");
+    measure_both(&call_list, &call_list_trusting, MITTENHELM_ACCEPTED, "list");
+}
+
+static void look_up(uint32_t expected, const char *what)
+{
+    measure_both(&call_look_up, &call_look_up_trusting, expected, what);
+}
+
+static void dual_cell(uint32_t expected, const char *what)
+{
+    measure_both(&call_dual_cell, &call_dual_cell_trusting, expected, what);
 }
 
 /* Every call that reads a tree, of all of its nodes and vertices. */
@@ -294,25 +319,20 @@ static void read_all(void)
     list();
     for (size_t i = 0; i < node_count; i++) {
         given = keys[i];
-        measure(&call_look_up);
-        expect(answer == MITTENHELM_ACCEPTED, "look_up");
+        look_up(MITTENHELM_ACCEPTED, "look_up");
         given = first_cell(DEEPEST) + any() % first_cell(DEEPEST);
-        measure(&call_look_up);
-        expect(answer == MITTENHELM_ACCEPTED, "look_up of level 21");
+        look_up(MITTENHELM_ACCEPTED, "look_up of level 21");
     }
     for (size_t i = 0; i < vertex_count; i++) {
         given = vertices[i];
         level = levels[i];
-        measure(&call_dual_cell);
-        expect(answer == MITTENHELM_ACCEPTED, "dual_cell");
+        dual_cell(MITTENHELM_ACCEPTED, "dual_cell");
         level = LIMIT + 5;
-        measure(&call_dual_cell);
+        dual_cell(MITTENHELM_ACCEPTED, "dual_cell of a finer level");
     }
     given = 0;
-    measure(&call_dual_cell);
-    expect(answer == MITTENHELM_NOT_A_VERTEX, "dual_cell of no vertex");
-    measure(&call_look_up);
-    expect(answer == MITTENHELM_NOT_A_CELL, "look_up of no cell");
+    dual_cell(MITTENHELM_NOT_A_VERTEX, "dual_cell of no vertex");
+    look_up(MITTENHELM_NOT_A_CELL, "look_up of no cell");
 }
 
 static void print_most_vertices(size_t room)
@@ -348,8 +368,7 @@ int main(void)
     leaves[0] = 1;
     given = (uint64_t)15 << 60;
     level = 1;
-    measure(&call_dual_cell);
-    expect(answer == MITTENHELM_NOT_A_VERTEX, "dual_cell of the root alone");
+    dual_cell(MITTENHELM_NOT_A_VERTEX, "dual_cell of the root alone");
     for (size_t i = 0; i < sizeof calls / sizeof calls[0]; i++)
         printf("stack %s %zu\n", calls[i]->name, calls[i]->deepest);
     print_most_vertices(MOST_NODES);

@@ -1,6 +1,6 @@
 //! What each side answers for a tree, so that only equal work is timed.
 
-use crate::ours::{dual_cell, look_ups, Building, Finished, Listing};
+use crate::ours::{checked, dual_cell, look_ups, Building, Finished, Listing};
 use crate::text::Text;
 
 /// The answers of one side, floats as their bits.
@@ -28,14 +28,13 @@ impl Answers {
 
     fn of_ours(finished: &Finished, keys: &[u64]) -> Self {
         let tree = finished.tree();
-        assert!(tree.sound(), "a finished build is a sound tree");
         let mut listing = Listing::new();
         listing.list(tree);
         Answers {
             nodes: finished.keys.iter().copied().zip(finished.distances.iter().map(|distance| distance.to_bits())).collect(),
             leaves: finished.leaves.clone(),
             vertices: listing.listed().collect(),
-            cells: listing.listed().map(|(vertex, level)| dual_cell(tree, vertex, level).keys).collect(),
+            cells: listing.listed().map(|(vertex, level)| dual_cell(checked(tree), vertex, level).keys).collect(),
             sum_of_cells: listing.dual_cells(tree),
             sum_of_look_ups: look_ups(tree, keys),
         }

@@ -1,6 +1,6 @@
 //! What is measured of ours: each call as a host makes it, over tables that it lends.
 
-use mittenhelm::{distance, start, DualCell, Lookup, Refusal, Request, State, Tables, Tree};
+use mittenhelm::{distance, start, DualCell, Lookup, Refusal, Request, SoundTree, State, Tables, Tree};
 
 /// No build has more nodes.
 pub const MOST_NODES: usize = 4096;
@@ -104,8 +104,9 @@ impl Listing {
         self.vertices.iter().zip(&self.levels).take(self.count).map(|(&vertex, &level)| (vertex, level.into()))
     }
 
-    /// Finds the dual cell of each vertex listed last; the sum of the bits of their distances.
+    /// Checks the tree, and finds the dual cell of each vertex listed last; the sum of the bits of their distances.
     pub fn dual_cells(&self, tree: Tree) -> u64 {
+        let tree = checked(tree);
         let bits = |cell: DualCell| cell.distances.iter().map(|distance| distance.to_bits() as u64).sum::<u64>();
         self.listed().map(|(vertex, level)| bits(dual_cell(tree, vertex, level))).sum()
     }
@@ -117,8 +118,9 @@ impl Default for Listing {
     }
 }
 
-/// Looks up each key; the sum of the keys found and of the bits of their distances.
+/// Checks the tree, and looks up each key; the sum of the keys found and of the bits of their distances.
 pub fn look_ups(tree: Tree, keys: &[u64]) -> u64 {
+    let tree = checked(tree);
     keys.iter().fold(0, |sum, &key| match look_up(tree, key) {
         Lookup::Found { key, distance, .. } => sum.wrapping_add(key).wrapping_add(distance.to_bits() as u64),
         Lookup::Nothing { .. } => sum,
@@ -128,12 +130,16 @@ pub fn look_ups(tree: Tree, keys: &[u64]) -> u64 {
 // The two calls that read one place of a tree: here alone is it chosen which form of them is measured.
 
 /// Said of that form in the report.
-pub const FORM: &str = "the checked calls, each of which sees first that the tree is sound";
+pub const FORM: &str = "the forms that trust a tree, after one check of it that is timed with them";
 
-pub fn dual_cell(tree: Tree, vertex: u64, level: u32) -> DualCell {
-    tree.dual_cell(vertex, level).expect("a sound tree and its vertex")
+pub fn checked(tree: Tree) -> SoundTree {
+    tree.checked().expect("a sound tree")
 }
 
-fn look_up(tree: Tree, key: u64) -> Lookup {
-    tree.look_up(key).expect("a sound tree and a cell key")
+pub fn dual_cell(tree: SoundTree, vertex: u64, level: u32) -> DualCell {
+    tree.dual_cell(vertex, level).expect("a vertex of the tree")
+}
+
+fn look_up(tree: SoundTree, key: u64) -> Lookup {
+    tree.look_up(key).expect("a cell key")
 }

@@ -5,6 +5,10 @@ use super::fields::Point;
 use super::progress::Progress;
 use mittenhelm::{DualCell, Refusal, SoundTree, Tree};
 
+/// Every build splits the root and its eight children, which gives 27 vertices.
+const FIRST_SPLITS: usize = 9;
+const FIRST_VERTICES: usize = 27;
+
 /// Splitting a leaf makes no more vertices: of 27 places, the eight corners were there.
 const VERTICES_OF_A_SPLIT: usize = 19;
 
@@ -43,7 +47,8 @@ pub struct Reading {
 impl Reading {
     pub fn new(tree: &Tree, exponent: u32, progress: &mut Progress) -> Result<Self, Fault> {
         let sound = tree.checked()?;
-        let list_places = VERTICES_OF_A_SPLIT * (tree.keys.len() - tree.leaves.len());
+        let splits = tree.keys.len() - tree.leaves.len();
+        let list_places = FIRST_VERTICES + VERTICES_OF_A_SPLIT * (splits - FIRST_SPLITS);
         let (mut vertices, mut levels) = (vec![0; list_places], vec![0; list_places]);
         let count = sound.list(0, &mut vertices, &mut levels)?;
         let mut cells = Vec::with_capacity(count);

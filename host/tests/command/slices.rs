@@ -142,15 +142,15 @@ fn check_slabs(report: &str, table: &[Vec<String>], expected: &[[usize; 2]]) {
 fn check_memory(report: &str, nodes: usize, expected: &Expected) {
     let (leaves, splits) = ((7 * nodes + 1) / 8, expected.tree.nodes.len() - expected.tree.leaves.len());
     let [n, _, m, queue] = expected.tree.needs();
-    let cells = expected.cells.len();
+    let (cells, listed) = (expected.cells.len(), 27 + 19 * (splits - 9));
     let tables = [
         ("node keys", nodes, n, 8),
         ("node distances", nodes, n, 4),
         ("leaf keys", leaves, m, 8),
         ("queue", leaves, queue, 8),
         ("state", 8, 8, 8),
-        ("vertices", 19 * splits, cells, 8),
-        ("levels", 19 * splits, cells, 1),
+        ("vertices", listed, cells, 8),
+        ("levels", listed, cells, 1),
     ];
     let lines = section(report, "memory ");
     assert_eq!(lines.len(), tables.len() + 1, "{report}");
