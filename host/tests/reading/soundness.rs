@@ -306,7 +306,7 @@ fn the_deepest_level() {
 }
 
 /// Changes one place of a table, its length or its order.
-fn change(tables: &mut Tables, random: &mut Random) {
+pub fn change(tables: &mut Tables, random: &mut Random) {
     let table = if random.below(2) == 0 { &mut tables.keys } else { &mut tables.leaves };
     if table.is_empty() {
         table.push(random.number());
