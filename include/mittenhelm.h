@@ -149,12 +149,17 @@ uint32_t mittenhelm_slab(uint64_t vertex, uint32_t level, uint32_t exponent, uin
  * mittenhelm_sound, keeps the tables as they are, and then calls these, which are given no leaves and look only at the keys
  * that they search among. Of a sound tree they answer exactly as the calls above. They never refuse 11: of tables that hold no
  * sound tree, of whatever lengths, they answer what the same search by halving comes to, among as many nodes as there are both
- * keys and distances. */
+ * keys and distances, or among all keys where no distances are given. */
 
 /* As mittenhelm_look_up of a tree that was checked before. Refusal 1. */
 uint32_t mittenhelm_look_up_trusting(
     const uint64_t *keys, size_t keys_length, const float *distances, size_t distances_length,
     uint64_t key, uint64_t *found, float *distance, uint32_t *tried);
+
+/* As mittenhelm_list of a tree that was checked before, of which the keys alone are given. Refusal 12. */
+uint32_t mittenhelm_list_trusting(
+    const uint64_t *keys, size_t keys_length,
+    size_t start, uint64_t *vertices, size_t vertices_length, uint8_t *levels, size_t levels_length, size_t *count);
 
 /* As mittenhelm_dual_cell of a tree that was checked before; a side for which nothing is found, as there is none in a sound tree,
  * gives the key 0 and the distance 0. Refusal 4, also where there is one key, which is the root alone. */

@@ -5,17 +5,18 @@ use crate::calls::{yes_or_no, ACCEPTED};
 use crate::case::{number, or_edge, same, told, Case, Checked, Out};
 use crate::keys::vertex_and_level;
 use mittenhelm::raw::{
-    mittenhelm_dual_cell, mittenhelm_dual_cell_trusting, mittenhelm_list, mittenhelm_look_up, mittenhelm_look_up_trusting,
-    mittenhelm_sound,
+    mittenhelm_dual_cell, mittenhelm_dual_cell_trusting, mittenhelm_list, mittenhelm_list_trusting, mittenhelm_look_up,
+    mittenhelm_look_up_trusting, mittenhelm_sound,
 };
 use oracle_answers::broken::{change, BREAKS};
 use oracle_answers::fields::{field, KINDS};
 use oracle_answers::inputs::Random;
 use oracle_answers::lent::{one_nan, Fenced};
-use oracle_answers::model::reading::{DualCell, Lookup, Reading, Tables};
+use oracle_answers::model::reading::{write_list, DualCell, Lookup, Reading, Tables};
 use oracle_answers::model::{self, level, Answer};
 use oracle_answers::questions::{asked, great_starts, lengths};
 use oracle_answers::trees::{grown, small, Tree, GROWTHS};
+use std::cell::RefCell;
 
 /// How often a case makes its call on its tree.
 const TIMES: u32 = 20;
@@ -82,6 +83,8 @@ pub struct Given {
     reading: Reading,
     /// The vertices with their levels; none, where the tree isn't sound.
     vertices: Vec<(u64, u32)>,
+    /// What the walk finds of a tree that isn't sound, once it was asked for.
+    walked: RefCell<Option<Vec<(u64, u32)>>>,
 }
 
 impl Given {
@@ -94,7 +97,16 @@ impl Given {
             vertices: reading.vertices().unwrap_or_default(),
             reading,
             tables,
+            walked: RefCell::new(None),
         }
+    }
+
+    /// What the list of one who trusts the tree has. The model's walk is slow, and of a sound tree it finds the vertices.
+    fn walked(&self) -> Vec<(u64, u32)> {
+        if self.reading.is_sound() {
+            return self.vertices.clone();
+        }
+        self.walked.borrow_mut().get_or_insert_with(|| self.tables.walked()).clone()
     }
 
     fn parts(&self) -> Parts {
@@ -170,9 +182,8 @@ impl Given {
         case.judge(name, said, way, &differences, || format!("{}, {key:#x}", self.told()))
     }
 
-    /// A start place, and lengths of the vertex table and the level table.
-    fn some_room(&self, random: &mut Random) -> (usize, [usize; 2]) {
-        let count = self.vertices.len();
+    /// A start place, and lengths of the vertex table and the level table, for a list of so many vertices.
+    fn some_room(&self, count: usize, random: &mut Random) -> (usize, [usize; 2]) {
         let start = match random.below(8) {
             0..=2 => 0,
             3 | 4 => random.below(40) as usize,
@@ -189,29 +200,46 @@ impl Given {
     }
 
     fn list(&self, case: &mut Case) -> Checked {
-        let (start, [vertices, levels]) = self.some_room(&mut case.random);
+        let (keys, k, distances, d, leaves, l) = self.parts();
+        self.list_by(
+            case,
+            "list",
+            self.vertices.len(),
+            |start, v, m, count| unsafe {
+                mittenhelm_list(keys, k, distances, d, leaves, l, start, v.as_mut_ptr(), v.len(), m.as_mut_ptr(), m.len(), count)
+            },
+            |start, vertices, levels| self.reading.list(start, vertices, levels),
+        )
+    }
+
+    fn list_trusting(&self, case: &mut Case) -> Checked {
+        let (keys, k, ..) = self.parts();
+        self.list_by(
+            case,
+            "list_trusting",
+            self.walked().len(),
+            |start, v, m, count| unsafe {
+                mittenhelm_list_trusting(keys, k, start, v.as_mut_ptr(), v.len(), m.as_mut_ptr(), m.len(), count)
+            },
+            |start, vertices, levels| write_list(&self.walked(), start, vertices, levels),
+        )
+    }
+
+    /// A call that lists so many vertices, beside the model's.
+    fn list_by(
+        &self,
+        case: &mut Case,
+        name: &'static str,
+        count: usize,
+        ours: impl Fn(usize, &mut [u64], &mut [u8], &mut usize) -> u32,
+        model: impl Fn(usize, &mut [u64], &mut [u8]) -> Answer<usize>,
+    ) -> Checked {
+        let (start, [vertices, levels]) = self.some_room(count, &mut case.random);
         let mut vertices: Vec<u64> = (0..vertices as u64).map(|place| 0x0bad_0000_0000_0000 + place).collect();
         let mut levels: Vec<u8> = (0..levels).map(|place| 0x80 + (place % 0x70) as u8).collect();
         let (mut our_vertices, mut our_levels, mut count) = (Fenced::new(&vertices), Fenced::new(&levels), Out::<usize>::new());
-        let (v, m) = (our_vertices.lend(), our_levels.lend());
-        let (keys, k, distances, d, leaves, l) = self.parts();
-        let said = unsafe {
-            mittenhelm_list(
-                keys,
-                k,
-                distances,
-                d,
-                leaves,
-                l,
-                start,
-                v.as_mut_ptr(),
-                v.len(),
-                m.as_mut_ptr(),
-                m.len(),
-                count.place(),
-            )
-        };
-        let expected = self.reading.list(start, &mut vertices, &mut levels);
+        let said = ours(start, our_vertices.lend(), our_levels.lend(), count.place());
+        let expected = model(start, &mut vertices, &mut levels);
         let differences = self.with_tables([
             count.difference(expected.ok().map(|count| [count]), "count"),
             our_vertices.difference(&vertices, "vertices"),
@@ -219,7 +247,7 @@ impl Given {
         ]);
         let way = expected.map(|count| if count == 0 { "none" } else { "vertices" });
         let arguments = || format!("{}, {start:#x}, tables of {} and {}", self.told(), vertices.len(), levels.len());
-        case.judge("list", said, way, &differences, arguments)
+        case.judge(name, said, way, &differences, arguments)
     }
 
     /// A listed vertex, a corner of a cell in or below the tree, or any number; with its level or another one.
@@ -280,6 +308,7 @@ impl Given {
         self.list(case)?;
         self.dual_cell(case)?;
         self.look_up_trusting(case)?;
+        self.list_trusting(case)?;
         self.dual_cell_trusting(case)
     }
 }
@@ -362,6 +391,10 @@ pub fn dual_cell(case: &mut Case) -> Checked {
 
 pub fn look_up_trusting(case: &mut Case) -> Checked {
     of_tree(case, Given::look_up_trusting)
+}
+
+pub fn list_trusting(case: &mut Case) -> Checked {
+    of_tree(case, Given::list_trusting)
 }
 
 pub fn dual_cell_trusting(case: &mut Case) -> Checked {

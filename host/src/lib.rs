@@ -118,6 +118,16 @@ pub mod raw {
             distance: &mut f32,
             tried: &mut u32,
         ) -> u32;
+        pub fn mittenhelm_list_trusting(
+            keys: *const u64,
+            keys_length: usize,
+            start: usize,
+            vertices: *mut u64,
+            vertices_length: usize,
+            levels: *mut u8,
+            levels_length: usize,
+            count: &mut usize,
+        ) -> u32;
         pub fn mittenhelm_dual_cell_trusting(
             keys: *const u64,
             keys_length: usize,
@@ -427,6 +437,17 @@ fn looked_up(look_up: impl FnOnce(&mut u64, &mut f32, &mut u32) -> u32) -> Resul
     accepted(number, answer)
 }
 
+/// What a call for a list answers that is handed both tables with their lengths, and the count's place.
+fn listed(
+    vertices: &mut [u64],
+    levels: &mut [u8],
+    list: impl FnOnce(*mut u64, usize, *mut u8, usize, &mut usize) -> u32,
+) -> Result<usize, Refusal> {
+    let mut count = 0;
+    let number = list(vertices.as_mut_ptr(), vertices.len(), levels.as_mut_ptr(), levels.len(), &mut count);
+    accepted(number, count)
+}
+
 /// What a call for a dual cell answers that is handed its places.
 fn around(dual_cell: impl FnOnce(&mut [u64; 8], &mut [f32; 8], &mut u32) -> u32) -> Result<DualCell, Refusal> {
     let mut cell = DualCell { keys: [0; 8], distances: [0.0; 8], tried: 0 };
@@ -461,18 +482,9 @@ impl<'a> Tree<'a> {
     /// Writes every vertex with its level, ascending, from a start place on into both tables. The answer is their number.
     #[inline]
     pub fn list(&self, start: usize, vertices: &mut [u64], levels: &mut [u8]) -> Result<usize, Refusal> {
-        let mut count = 0;
-        let number = with_tree!(
-            mittenhelm_list,
-            self,
-            start,
-            vertices.as_mut_ptr(),
-            vertices.len(),
-            levels.as_mut_ptr(),
-            levels.len(),
-            &mut count
-        );
-        accepted(number, count)
+        listed(vertices, levels, |vertices, v, levels, l, count| {
+            with_tree!(mittenhelm_list, self, start, vertices, v, levels, l, count)
+        })
     }
 
     /// The deepest ancestors of the cells of the level on the eight sides of an inner vertex.
@@ -499,9 +511,12 @@ impl<'a> SoundTree<'a> {
         looked_up(|found, distance, tried| with_nodes!(mittenhelm_look_up_trusting, self.tree, key, found, distance, tried))
     }
 
-    /// As `Tree::list`, with its check of the tree.
+    /// As `Tree::list`, without a check of the tree.
     pub fn list(&self, start: usize, vertices: &mut [u64], levels: &mut [u8]) -> Result<usize, Refusal> {
-        self.tree.list(start, vertices, levels)
+        let keys = self.tree.keys;
+        listed(vertices, levels, |vertices, v, levels, l, count| unsafe {
+            raw::mittenhelm_list_trusting(keys.as_ptr(), keys.len(), start, vertices, v, levels, l, count)
+        })
     }
 
     /// As `Tree::dual_cell`, without a check of the tree.

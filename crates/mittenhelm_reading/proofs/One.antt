@@ -10,7 +10,7 @@ use Rattle.tree.specs.Climb.{LookupSays}
 use Rattle.tree.proofs.One.{sound-one as sound-answer-one, look-up-one as lookup-answer-one}
 use Rattle.vertices.specs.declared.ListAnswer.{ListAnswer}
 use Rattle.vertices.specs.declared.ListAnswer.the-variants as list
-use Rattle.vertices.specs.Listing.{Lists}
+use Rattle.vertices.specs.Listing.{Lists, ListSays}
 use Rattle.vertices.proofs.One.{list-one as list-answer-one}
 use Rattle.dual.specs.declared.Dual.{Dual}
 use Rattle.dual.specs.declared.Tried.{Tried}
@@ -45,18 +45,22 @@ dual-cell-one t L v was =
     handed-on (λ (a : Dual). DualSays t L v (a .keys) (a .distances) (a .tried)) (λ a r. HandsEight (a .keys) (a .distances) (a .tried) was (r .0) (r .1))
     (dual-answer-one t L v) (λ a. hand-eight-one a was)
 
-count-one : (a : ListAnswer) (was : ℕ) → OnlyOne (λ (r : ℕ × ℕ). HandsCount a was (r .0) (r .1))
-count-one (list.Count n) was = both 0 n
-count-one (list.Refused k) was = both k was
+pub hand-count-one : (a : ListAnswer) (was : ℕ) → OnlyOne (λ (r : ℕ × ℕ). HandsCount a was (r .0) (r .1))
+hand-count-one (list.Count n) was = both 0 n
+hand-count-one (list.Refused k) was = both k was
 
--- the count, and both tables
+-- the count, and both tables, where there is one answer with its tables
+pub listed-on : (says : Lists → ListAnswer → Type 0) → OnlyOne (λ (o : Lists × ListAnswer). says (o .0) (o .1)) → (was : ℕ)
+    → OnlyOne (λ (r : Lists × (ℕ × ℕ)). (a : ListAnswer) × says (r .0) a × HandsCount a was (r .1 .0) (r .1 .1))
+listed-on says answer was r s p q =
+    let same = answer (r .0, p .0) (s .0, q .0) (p .1) (q .1) in
+    let n : r .1 ≡ s .1 =
+    hand-count-one (q .0) was (r .1) (s .1) (subst (λ (a : ListAnswer). HandsCount a was (r .1 .0) (r .1 .1)) (ap (λ (x : Lists × ListAnswer). x .1) same) (p .2)) (q .2) in
+    λ i. (ap (λ (x : Lists × ListAnswer). x .0) same i, n i)
+
 pub list-one : (t : Tree) (start was : ℕ) (before : Lists)
     → OnlyOne (λ (r : Lists × (ℕ × ℕ)). HandsList t start before (r .0) was (r .1 .0) (r .1 .1))
-list-one t start was before r s p q =
-    let same = list-answer-one t start before (r .0, p .0) (s .0, q .0) (p .1) (q .1) in
-    let n : r .1 ≡ s .1 =
-    count-one (q .0) was (r .1) (s .1) (subst (λ (a : ListAnswer). HandsCount a was (r .1 .0) (r .1 .1)) (ap (λ (x : Lists × ListAnswer). x .1) same) (p .2)) (q .2) in
-    λ i. (ap (λ (x : Lists × ListAnswer). x .0) same i, n i)
+list-one t start was before = listed-on (λ after a. ListSays t start before after a) (list-answer-one t start before) was
 
 slab-handed-one : (a : SlabAnswer) (was : ℕ) → OnlyOne (λ (r : ℕ × ℕ). HandsSlab a was (r .0) (r .1))
 slab-handed-one (slab.Is n) was = both 0 n

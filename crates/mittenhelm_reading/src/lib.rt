@@ -7,7 +7,7 @@ use vertices::ListAnswer;
 ghost use Rattle.tree.specs.Tree.{treeOf, Sound, Decides};
 ghost use Rattle.vertices.specs.Listing.{listsOf};
 ghost use Rattle.dual.specs.Slab.{slabAnswer};
-ghost use Rattle.mittenhelm_reading.specs.Reading.{foundAt, HandsFound, HandsLookup, HandsList, eightAt, HandsEight, HandsDual, HandsSlab};
+ghost use Rattle.mittenhelm_reading.specs.Reading.{foundAt, HandsFound, HandsLookup, eightAt, HandsEight, HandsDual, HandsCount, HandsList, HandsSlab};
 
 // Hands a lookup over: what it found to the three places, or its refusal.
 pub fn hand_found(answer: Lookup, found: &mut u64, distance: &mut f32, tried: &mut u32) -> u32
@@ -55,6 +55,19 @@ pub fn hand_eight(cell: Dual, nodes: &mut [u64; 8], values: &mut [f32; 8], tried
     }
 }
 
+// Hands a list over: the number of its vertices to the place, or its refusal.
+pub fn hand_count(answer: ListAnswer, count: &mut usize) -> u32
+    ensures { λ r. ⌜ HandsCount answer (now (count .entry)) r (now (count .exit)) ⌝ }
+{
+    match answer {
+        ListAnswer::Count(n) => {
+            *count = n;
+            0
+        }
+        ListAnswer::Refused(number) => number,
+    }
+}
+
 #[no_mangle]
 pub extern "C" fn mittenhelm_sound(keys: &[u64], distances: &[f32], leaves: &[u64]) -> bool
     ensures { λ r. ⌜ Decides r (Sound (treeOf (now (keys .entry)) (now (distances .entry)) (now (leaves .entry)))) ⌝ }
@@ -97,13 +110,7 @@ pub extern "C" fn mittenhelm_list(
         (now (count .entry)) r (now (count .exit)) ⌝ }
 {
     let answer = vertices::list(keys, distances, leaves, start, vertices, levels);
-    match answer {
-        ListAnswer::Count(n) => {
-            *count = n;
-            0
-        }
-        ListAnswer::Refused(number) => number,
-    }
+    hand_count(answer, count)
 }
 
 #[no_mangle]

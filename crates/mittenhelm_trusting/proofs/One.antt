@@ -1,20 +1,26 @@
--- One answer only: of each exported call, what is returned and every out parameter are settled by its promise. Assumes nothing.
+-- One answer only: of each exported call, what is returned, every out parameter and every table are settled by its promise. Assumes nothing.
 use Prim.Native.Nat.{ℕ}
 use mathlib.Core.List.{List}
 use lib.Ieee.{Float}
 use Rattle.morton.proofs.One.{OnlyOne, handed-on}
 use Rattle.tree.specs.Climb.{trustingOf}
+use Rattle.vertices.specs.Listing.{Lists, TrustingSays as ListTrustingSays}
+use Rattle.vertices.proofs.One.{list-trusting-one as list-answer-one}
 use Rattle.dual.specs.declared.Dual.{Dual}
-use Rattle.dual.specs.Dual.{TrustingSays}
+use Rattle.dual.specs.Dual.{TrustingSays as DualTrustingSays}
 use Rattle.dual.proofs.One.{dual-cell-trusting-one as dual-answer-one}
 use Rattle.mittenhelm_reading.specs.Reading.{Found, HandsFound, Eight, HandsEight}
-use Rattle.mittenhelm_reading.proofs.One.{hand-found-one, hand-eight-one}
-use Rattle.mittenhelm_trusting.specs.Trusting.{HandsTrusted}
+use Rattle.mittenhelm_reading.proofs.One.{hand-found-one, hand-eight-one, listed-on}
+use Rattle.mittenhelm_trusting.specs.Trusting.{HandsTrustedList, HandsTrustedDual}
 
 pub look-up-trusting-one : (ks : List ℕ) (ds : List Float) (k : ℕ) (was : Found) → OnlyOne (λ (r : ℕ × Found). HandsFound (trustingOf ks ds k) was (r .0) (r .1))
 look-up-trusting-one ks ds k was = hand-found-one (trustingOf ks ds k) was
 
-pub dual-cell-trusting-one : (ks : List ℕ) (ds : List Float) (L v : ℕ) (was : Eight) → OnlyOne (λ (r : ℕ × Eight). HandsTrusted ks ds L v was (r .0) (r .1))
+pub list-trusting-one : (ks : List ℕ) (start was : ℕ) (before : Lists)
+    → OnlyOne (λ (r : Lists × (ℕ × ℕ)). HandsTrustedList ks start before (r .0) was (r .1 .0) (r .1 .1))
+list-trusting-one ks start was before = listed-on (λ after a. ListTrustingSays ks start before after a) (list-answer-one ks start before) was
+
+pub dual-cell-trusting-one : (ks : List ℕ) (ds : List Float) (L v : ℕ) (was : Eight) → OnlyOne (λ (r : ℕ × Eight). HandsTrustedDual ks ds L v was (r .0) (r .1))
 dual-cell-trusting-one ks ds L v was =
-    handed-on (λ (a : Dual). TrustingSays ks ds L v (a .keys) (a .distances) (a .tried)) (λ a r. HandsEight (a .keys) (a .distances) (a .tried) was (r .0) (r .1))
+    handed-on (λ (a : Dual). DualTrustingSays ks ds L v (a .keys) (a .distances) (a .tried)) (λ a r. HandsEight (a .keys) (a .distances) (a .tried) was (r .0) (r .1))
     (dual-answer-one ks ds L v) (λ a. hand-eight-one a was)

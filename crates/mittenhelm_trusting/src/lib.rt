@@ -1,7 +1,8 @@
 // The boundary for hosts, reading a tree that was checked before: numbers and slices only. include/mittenhelm.h declares each function for C.
 ghost use Rattle.tree.specs.Climb.{trustingOf};
+ghost use Rattle.vertices.specs.Listing.{listsOf};
 ghost use Rattle.mittenhelm_reading.specs.Reading.{foundAt, HandsFound, eightAt};
-ghost use Rattle.mittenhelm_trusting.specs.Trusting.{HandsTrusted};
+ghost use Rattle.mittenhelm_trusting.specs.Trusting.{HandsTrustedList, HandsTrustedDual};
 
 #[no_mangle]
 pub extern "C" fn mittenhelm_look_up_trusting(
@@ -22,6 +23,23 @@ pub extern "C" fn mittenhelm_look_up_trusting(
 }
 
 #[no_mangle]
+pub extern "C" fn mittenhelm_list_trusting(
+    keys: &[u64],
+    start: usize,
+    vertices: &mut [u64],
+    levels: &mut [u8],
+    count: &mut usize,
+) -> u32
+    ensures { λ r. ⌜
+        HandsTrustedList (now (keys .entry)) start
+        (listsOf (now (vertices .entry)) (now (levels .entry))) (listsOf (now (vertices .exit)) (now (levels .exit)))
+        (now (count .entry)) r (now (count .exit)) ⌝ }
+{
+    let answer = vertices::list_trusting(keys, start, vertices, levels);
+    mittenhelm_reading::hand_count(answer, count)
+}
+
+#[no_mangle]
 pub extern "C" fn mittenhelm_dual_cell_trusting(
     keys: &[u64],
     distances: &[f32],
@@ -32,7 +50,7 @@ pub extern "C" fn mittenhelm_dual_cell_trusting(
     tried: &mut u32,
 ) -> u32
     ensures { λ r. ⌜
-        HandsTrusted (now (keys .entry)) (now (distances .entry)) level vertex
+        HandsTrustedDual (now (keys .entry)) (now (distances .entry)) level vertex
         (eightAt (now (nodes .entry)) (now (values .entry)) (now (tried .entry))) r
         (eightAt (now (nodes .exit)) (now (values .exit)) (now (tried .exit))) ⌝ }
 {

@@ -84,6 +84,17 @@ static void read_tree(uint64_t middle)
         "look_up_trusting without distances");
     expect(found == 0 && distance == 66.0f && tried == 2, "nothing without a distance");
 
+    count = 5;
+    vertices[2] = 5;
+    vertices[3] = 5;
+    expect(mittenhelm_list_trusting(keys, 73, 4, vertices, 30, levels, 30, &count) == MITTENHELM_LIST_FULL,
+        "list_trusting in 26 places");
+    expect(count == 5 && vertices[3] == 5, "a refused list of a trusted tree");
+    expect(mittenhelm_list_trusting(keys, 73, 3, vertices, 30, levels, 30, &count) == MITTENHELM_ACCEPTED, "list_trusting");
+    expect(count == 27 && vertices[2] == 5 && vertices[22] == middle && levels[22] == 2, "the same list");
+    expect(mittenhelm_list_trusting(keys, 0, 30, vertices, 30, levels, 30, &count) == MITTENHELM_ACCEPTED && count == 0,
+        "list_trusting without keys");
+
     cell_keys[0] = 5;
     expect(mittenhelm_dual_cell_trusting(keys, 1, distances, 1, middle, 2, cell_keys, cell_distances, &tried)
         == MITTENHELM_NOT_A_VERTEX, "dual_cell_trusting of the root alone");

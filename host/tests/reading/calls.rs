@@ -2,14 +2,15 @@
 //! table must be the model's, the tree's tables as they were, and so what lies around them.
 
 use mittenhelm::raw::{
-    mittenhelm_dual_cell, mittenhelm_dual_cell_trusting, mittenhelm_list, mittenhelm_look_up, mittenhelm_look_up_trusting,
-    mittenhelm_slab, mittenhelm_sound,
+    mittenhelm_dual_cell, mittenhelm_dual_cell_trusting, mittenhelm_list, mittenhelm_list_trusting, mittenhelm_look_up,
+    mittenhelm_look_up_trusting, mittenhelm_slab, mittenhelm_sound,
 };
 use oracle_answers::inputs::Random;
 use oracle_answers::lent::{one_nan, Fenced};
 use oracle_answers::model::reading::{self, DualCell, Lookup, Reading, Tables};
 use oracle_answers::model::{level, Answer};
 use oracle_answers::questions;
+use std::cell::RefCell;
 use std::fmt::{Debug, Display};
 
 /// What out parameters hold before a call.
@@ -46,6 +47,9 @@ pub struct Trusted {
     pub itself: u64,
     pub ancestor: u64,
     pub nothing: u64,
+    /// Lists that were written: with vertices, and those with none.
+    pub lists: u64,
+    pub empty_lists: u64,
     /// Dual cells: with all eight entries, some, or none.
     pub whole_cells: u64,
     pub part_cells: u64,
@@ -53,12 +57,12 @@ pub struct Trusted {
 }
 
 impl Trusted {
-    /// Asserts that every kind of answer was seen so often, and of the refusals 1 and 4 alone.
+    /// Asserts that every kind of answer was seen so often, and of the refusals 1, 4 and 12 alone.
     pub fn assert_every_answer(&self, times: u64) {
-        let Trusted { refused, itself, ancestor, nothing, whole_cells, part_cells, empty_cells } = self;
-        let answers = [itself, ancestor, nothing, whole_cells, part_cells, empty_cells];
+        let Trusted { refused, itself, ancestor, nothing, lists, empty_lists, whole_cells, part_cells, empty_cells } = self;
+        let answers = [itself, ancestor, nothing, lists, empty_lists, whole_cells, part_cells, empty_cells];
         assert!(answers.iter().all(|&&seen| seen >= times), "{self:?}");
-        assert_refused(refused, times, &[1, 4], self);
+        assert_refused(refused, times, &[1, 4, 12], self);
     }
 
     fn count_lookup(&mut self, asked: u64, answer: Answer<Lookup>) {
@@ -66,6 +70,14 @@ impl Trusted {
             Ok(Lookup::Found { key, .. }) if key == asked => &mut self.itself,
             Ok(Lookup::Found { .. }) => &mut self.ancestor,
             Ok(Lookup::Nothing { .. }) => &mut self.nothing,
+            Err(number) => &mut self.refused[number as usize],
+        } += 1;
+    }
+
+    fn count_list(&mut self, answer: Answer<usize>) {
+        *match answer {
+            Ok(0) => &mut self.empty_lists,
+            Ok(_) => &mut self.lists,
             Err(number) => &mut self.refused[number as usize],
         } += 1;
     }
@@ -116,6 +128,8 @@ pub struct Given {
     keys: Fenced<u64>,
     distances: Fenced<u32>,
     leaves: Fenced<u64>,
+    /// What `walked` answers, from its first call on: the model's walk takes its time.
+    walked: RefCell<Option<Vec<(u64, u32)>>>,
     pub tables: Tables,
     pub reading: Reading,
 }
@@ -142,6 +156,7 @@ impl Given {
             keys: Fenced::new(&tables.keys),
             distances: Fenced::new(&tables.distances),
             leaves: Fenced::new(&tables.leaves),
+            walked: RefCell::new(None),
             reading: Reading::of(&tables),
             tables,
         }
@@ -150,6 +165,12 @@ impl Given {
     /// The vertices of a sound tree with their levels.
     pub fn vertices(&self) -> Vec<(u64, u32)> {
         self.reading.vertices().expect("a sound tree")
+    }
+
+    /// The vertices that a list finds which trusts the tree: of a sound one they are its vertices.
+    pub fn walked(&self) -> Vec<(u64, u32)> {
+        let walk = || self.reading.vertices().unwrap_or_else(|_| self.tables.walked());
+        self.walked.borrow_mut().get_or_insert_with(walk).clone()
     }
 
     pub fn sound(&self, seen: &mut Seen) -> bool {
@@ -203,36 +224,59 @@ impl Given {
         self.agree(&(number, found, one_nan(distance.to_bits()), tried), &expected_out, call);
     }
 
-    /// Lists from a start place on, in a vertex table and a level table of these lengths.
-    pub fn list(&self, start: usize, [vertices, levels]: [usize; 2], seen: &mut Seen) -> Answer<usize> {
-        // Each place holds something else, and nothing that a list writes.
-        let mut vertices: Vec<u64> = (0..vertices as u64).map(|place| 0x0bad_0000_0000_0000 + place).collect();
-        let mut levels: Vec<u8> = (0..levels).map(|place| 0x80 + (place % 0x70) as u8).collect();
-        let (mut our_vertices, mut our_levels) = (Fenced::new(&vertices), Fenced::new(&levels));
-        let call = format!("list from {start:#x} on in tables of {} and {}", vertices.len(), levels.len());
-        let expected = self.reading.list(start, &mut vertices, &mut levels);
-
-        let mut count = UNTOUCHED as usize;
-        let (lent_vertices, lent_levels) = (our_vertices.lend(), our_levels.lend());
-        let number = with_tree!(
-            mittenhelm_list,
-            self,
+    /// Both lists from a start place on, in a vertex table and a level table of these lengths; the trusting one answers an unsound
+    /// tree too.
+    pub fn list(&self, start: usize, lengths: [usize; 2], seen: &mut Seen) -> Answer<usize> {
+        let (listed, walked) = (self.reading.vertices(), self.walked());
+        let call = format!("from {start:#x} on in tables of {} and {}", lengths[0], lengths[1]);
+        let expected = self.agree_list(listed, start, lengths, &format!("list {call}"), |vertices, v, levels, l, count| {
+            with_tree!(mittenhelm_list, self, start, vertices, v, levels, l, count)
+        });
+        let keys = self.keys.part();
+        let trusting = self.agree_list(
+            Ok(walked),
             start,
-            lent_vertices.as_mut_ptr(),
-            lent_vertices.len(),
-            lent_levels.as_mut_ptr(),
-            lent_levels.len(),
-            &mut count
+            lengths,
+            &format!("list_trusting {call}"),
+            |vertices, v, levels, l, count| unsafe {
+                mittenhelm_list_trusting(keys.as_ptr(), keys.len(), start, vertices, v, levels, l, count)
+            },
         );
-        let expected_out = expected.map_or_else(|number| (number, UNTOUCHED as usize), |count| (0, count));
-        self.agree(&(number, count), &expected_out, &call);
-        our_vertices.assert_holds(&vertices, "vertices", &|| self.told(&call));
-        our_levels.assert_holds(&levels, "levels", &|| self.told(&call));
+        if !self.reading.is_sound() {
+            seen.trusted.count_list(trusting);
+        }
         match expected {
             Ok(0) => seen.empty_lists += 1,
             Ok(_) => seen.lists += 1,
             refused => seen.count_refusal(refused),
         }
+        expected
+    }
+
+    /// Makes a call for a list that is handed two tables with their lengths and a count, and sees that it leaves what the model
+    /// does, which writes these vertices or has refused before.
+    fn agree_list(
+        &self,
+        listed: Answer<Vec<(u64, u32)>>,
+        start: usize,
+        [vertices, levels]: [usize; 2],
+        call: &str,
+        list: impl FnOnce(*mut u64, usize, *mut u8, usize, &mut usize) -> u32,
+    ) -> Answer<usize> {
+        // Each place holds something else, and nothing that a list writes.
+        let mut vertices: Vec<u64> = (0..vertices as u64).map(|place| 0x0bad_0000_0000_0000 + place).collect();
+        let mut levels: Vec<u8> = (0..levels).map(|place| 0x80 + (place % 0x70) as u8).collect();
+        let (mut our_vertices, mut our_levels) = (Fenced::new(&vertices), Fenced::new(&levels));
+        let expected = listed.and_then(|listed| reading::write_list(&listed, start, &mut vertices, &mut levels));
+
+        let mut count = UNTOUCHED as usize;
+        let (lent_vertices, lent_levels) = (our_vertices.lend(), our_levels.lend());
+        let number =
+            list(lent_vertices.as_mut_ptr(), lent_vertices.len(), lent_levels.as_mut_ptr(), lent_levels.len(), &mut count);
+        let expected_out = expected.map_or_else(|number| (number, UNTOUCHED as usize), |count| (0, count));
+        self.agree(&(number, count), &expected_out, call);
+        our_vertices.assert_holds(&vertices, "vertices", &|| self.told(&call));
+        our_levels.assert_holds(&levels, "levels", &|| self.told(&call));
         expected
     }
 

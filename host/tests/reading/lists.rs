@@ -2,27 +2,36 @@
 
 use crate::calls::{Given, Seen};
 use oracle_answers::inputs::Random;
+use oracle_answers::model::Answer;
 use oracle_answers::questions::{great_starts, lengths};
 use oracle_answers::trees::{grown, Growth, GROWTHS};
 
-/// Each start of some, and for both tables each length around the edges.
-fn list_around(given: &Given, starts: &[usize], seen: &mut Seen) {
-    let count = given.vertices().len();
+/// Start places, each with lengths of both tables, for a list of so many vertices: for each start of some all lengths around the
+/// edges, and starts so great that none has room.
+pub fn rooms(count: usize, starts: &[usize]) -> Vec<(usize, [usize; 2])> {
+    let mut rooms = Vec::new();
     for &start in starts {
         let lengths = lengths(start, count);
-        for &vertices in &lengths {
-            for &levels in &lengths {
-                let fits = |length| length >= start + count;
-                let answer = given.list(start, [vertices, levels], seen);
-                assert_eq!(answer, if fits(vertices) && fits(levels) { Ok(count) } else { Err(12) });
-            }
-        }
+        rooms.extend(lengths.iter().flat_map(|&vertices| lengths.iter().map(move |&levels| (start, [vertices, levels]))));
     }
     for start in great_starts(count) {
         for length in [0, 1, count, count + 1, count + 8] {
-            assert_eq!(given.list(start, [length, length + 3], seen), Err(12));
-            assert_eq!(given.list(start, [length + 3, length], seen), Err(12));
+            rooms.extend([(start, [length, length + 3]), (start, [length + 3, length])]);
         }
+    }
+    rooms
+}
+
+/// What a list of so many vertices answers in a room.
+pub fn in_room(count: usize, start: usize, lengths: [usize; 2]) -> Answer<usize> {
+    let end = start.checked_add(count);
+    Some(count).filter(|_| lengths.iter().all(|&length| end.map_or(false, |end| end <= length))).ok_or(12)
+}
+
+fn list_around(given: &Given, starts: &[usize], seen: &mut Seen) {
+    let count = given.vertices().len();
+    for (start, lengths) in rooms(count, starts) {
+        assert_eq!(given.list(start, lengths, seen), in_room(count, start, lengths));
     }
 }
 
@@ -35,8 +44,8 @@ fn every_start_and_length() {
         for start in 0..9 {
             for vertices in 0..12 {
                 for levels in 0..12 {
-                    let fits = start + count <= vertices.min(levels);
-                    assert_eq!(given.list(start, [vertices, levels], &mut seen), if fits { Ok(count) } else { Err(12) });
+                    let lengths = [vertices, levels];
+                    assert_eq!(given.list(start, lengths, &mut seen), in_room(count, start, lengths));
                 }
             }
         }
@@ -84,8 +93,7 @@ fn of_great_trees() {
         for (start, lengths) in
             [(0, [count; 2]), (5, [count + 9, count + 5]), (5, [count + 4, count + 5]), (5, [count + 5, count + 4])]
         {
-            let fits = lengths.iter().all(|length| length - start >= count);
-            assert_eq!(given.list(start, lengths, &mut seen), if fits { Ok(count) } else { Err(12) });
+            assert_eq!(given.list(start, lengths, &mut seen), in_room(count, start, lengths));
         }
     }
 }

@@ -2,8 +2,12 @@
 //! makes them beside the calls that check.
 
 use crate::calls::{Given, Seen};
+use crate::lists::rooms;
+use oracle_answers::broken::change;
 use oracle_answers::inputs::Random;
-use oracle_answers::model::reading::{Lookup, Tables};
+use oracle_answers::model::level;
+use oracle_answers::model::reading::{Lookup, Reading, Tables};
+use oracle_answers::trees::{grown, GROWTHS};
 
 /// Keys below a bound, so that many are cells, or twice there; sometimes sorted, as far as that makes them ascend.
 fn some_keys(random: &mut Random) -> Vec<u64> {
@@ -47,8 +51,84 @@ fn any_tables() {
             let (vertex, level) = random.vertex_and_level();
             let _ = given.dual_cell(vertex, level, &mut seen);
         }
+        let (count, start) = (given.walked().len(), random.below(3) as usize);
+        let mut length = || (start + count + random.below(3) as usize).saturating_sub(1);
+        let _ = given.list(start, [length(), length()], &mut seen);
     }
     println!("any tables, {missed} keys missed and {without} without a distance: {seen:?}");
     assert!(missed > 2000 && without > 2000, "{missed}, {without}");
     seen.trusted.assert_every_answer(1000);
+}
+
+/// A tree that is sound but for its levels, which go down to 21, and then for up to three changes; and the tree before them.
+fn broken(round: usize, random: &mut Random) -> (Tables, Tables) {
+    let whole = grown(GROWTHS[round % 3], random.below(45) as usize, [15, 18, 21][random.below(3) as usize], random);
+    let mut tables = whole.clone();
+    for _ in 0..random.below(4) {
+        change(&mut tables, random);
+    }
+    (whole, tables)
+}
+
+/// What was listed of trees that aren't sound.
+#[derive(Debug, Default)]
+struct Listed {
+    /// Lists with the vertices that a sound tree had before it was changed, and others that aren't empty.
+    same: u64,
+    other: u64,
+    /// Lists of trees with keys above level 15, with vertices.
+    too_deep: u64,
+    /// Vertices of each level.
+    levels: [u64; 16],
+}
+
+/// The walk goes on where it can, whatever is wrong elsewhere.
+#[test]
+fn lists_of_unsound_trees() {
+    let (mut random, mut seen, mut listed) = (Random::new(2), Seen::default(), Listed::default());
+    for round in 0..6000 {
+        let (whole, tables) = broken(round, &mut random);
+        let given = Given::new(tables);
+        if given.reading.is_sound() {
+            continue;
+        }
+        let walked = given.walked();
+        // Each divided cell has an entry whose first child is a key; a node is an entry of eight cells at most.
+        assert!(walked.len() <= 64 * given.tables.keys.len());
+        walked.iter().for_each(|&(_, level)| listed.levels[level as usize] += 1);
+        let before = Reading::of(&whole).vertices();
+        listed.same += (before.as_ref() == Ok(&walked)) as u64;
+        listed.other += (before.map_or(false, |before| before != walked) && !walked.is_empty()) as u64;
+        listed.too_deep += (given.tables.keys.iter().any(|&key| level(key) > 15) && !walked.is_empty()) as u64;
+        let (count, start) = (walked.len(), random.below(9) as usize);
+        assert_eq!(given.list(start, [start + count, start + count], &mut seen), Err(11));
+        if round % 40 == 0 {
+            for (start, lengths) in rooms(count, &[0, start]) {
+                assert_eq!(given.list(start, lengths, &mut seen), Err(11));
+            }
+        }
+    }
+    println!("unsound trees: {listed:?}, {seen:?}");
+    let Listed { same, other, too_deep, levels } = &listed;
+    assert!([same, other, too_deep].iter().all(|&&seen| seen > 300), "{listed:?}");
+    assert!(levels[1..].iter().all(|&seen| seen > 100), "{listed:?}");
+    let trusted = &seen.trusted;
+    assert!(trusted.lists > 3000 && trusted.empty_lists > 200 && trusted.refused[12] > 5000, "{trusted:?}");
+}
+
+/// The walk asks for the first of eight children alone. So eight times that one gives the list of the sound tree, and so do other
+/// roots.
+#[test]
+fn lists_by_first_children() {
+    let (mut random, mut seen) = (Random::new(3), Seen::default());
+    for round in 0..300 {
+        let sound = Given::new(grown(GROWTHS[round % 3], 1 + round / 8, 15, &mut random));
+        let mut tables = sound.tables.clone();
+        tables.keys.iter_mut().for_each(|key| *key -= *key % 8);
+        let given = Given::new(tables);
+        assert_eq!(given.walked(), sound.vertices());
+        let count = sound.vertices().len();
+        assert_eq!(given.list(0, [count, count + 1], &mut seen), Err(11));
+    }
+    assert_eq!(seen.trusted.lists, 300);
 }

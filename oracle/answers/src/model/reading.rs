@@ -1,8 +1,10 @@
-//! Document 01, "Reading a finished tree", condition by condition over sets and maps; the search by halving on any tables; and what
-//! the program `counts` prints.
+//! Document 01, "Reading a finished tree", condition by condition over sets and maps; the search by halving and the walk that finds
+//! the vertices, on any tables; and what the program `counts` prints.
 
 use super::build::{self, STATE_WORDS};
-use super::{every_third_bit, is_cell, is_inner, level, side, vertex, Answer};
+use super::{
+    cell, coordinates, corner_bit, every_third_bit, is_cell, is_inner, level, power_of_8, side, vertex, Answer, DEEPEST,
+};
 use std::collections::{BTreeMap, BTreeSet};
 
 /// A tree as it is given, sound or not. Distances are bits here, so that two NaNs can be told apart.
@@ -117,16 +119,7 @@ impl Reading {
 
     /// Writes the list from a start place on. The answer is the number of vertices.
     pub fn list(&self, start: usize, vertices: &mut [u64], levels: &mut [u8]) -> Answer<usize> {
-        let list = self.vertices()?;
-        let fits = |length: usize| start <= length && list.len() <= length - start;
-        if !fits(vertices.len()) || !fits(levels.len()) {
-            return Err(12);
-        }
-        for (i, &(vertex, level)) in list.iter().enumerate() {
-            vertices[start + i] = vertex;
-            levels[start + i] = level as u8;
-        }
-        Ok(list.len())
+        write_list(&self.vertices()?, start, vertices, levels)
     }
 
     pub fn dual_cell(&self, vertex: u64, level: u32) -> Answer<DualCell> {
@@ -138,6 +131,19 @@ impl Reading {
         assert!(cell.keys.iter().all(|&key| key != 0), "all of level 1 is present");
         Ok(cell)
     }
+}
+
+/// Writes a list of vertices with their levels from a start place on, where both tables have room. The answer is their number.
+pub fn write_list(list: &[(u64, u32)], start: usize, vertices: &mut [u64], levels: &mut [u8]) -> Answer<usize> {
+    let fits = |length: usize| start <= length && list.len() <= length - start;
+    if !fits(vertices.len()) || !fits(levels.len()) {
+        return Err(12);
+    }
+    for (i, &(vertex, level)) in list.iter().enumerate() {
+        vertices[start + i] = vertex;
+        levels[start + i] = level as u8;
+    }
+    Ok(list.len())
 }
 
 /// What is looked up on the eight sides of an inner vertex; where nothing is found the entry is 0 and 0.
@@ -196,6 +202,94 @@ impl Tables {
         }
         Ok(around(vertex, level, |side| self.climb(side)))
     }
+
+    /// Every vertex that the walk over the cells finds, with its level. It asks for the keys alone.
+    pub fn walked(&self) -> Vec<(u64, u32)> {
+        let mut found = Vec::new();
+        Walk { keys: &self.keys }.go_over(0, 1, &mut found);
+        found
+    }
+}
+
+/// The walk over the cells from the root down, in the words of crates/vertices/specs/Walk.antt. Each cell finds the nodes round its low
+/// corner from the root on again: what a parent found isn't handed down.
+struct Walk<'a> {
+    keys: &'a [u64],
+}
+
+impl Walk<'_> {
+    fn stands(&self, place: usize, key: u64) -> bool {
+        self.keys.get(place) == Some(&key)
+    }
+
+    /// Where the children of a node's child would stand. Halving tells it of the first child, and each child before takes eight
+    /// places if its children stand where they would.
+    fn children_at(&self, node: u64, which: u64) -> usize {
+        if which == 0 {
+            return halving_ends(self.keys, 64 * node);
+        }
+        let before = self.children_at(node, which - 1);
+        let taken = self.stands(before, 8 * (8 * node + which - 1));
+        before + if taken { 8 } else { 0 }
+    }
+
+    /// The root is split where its first child stands; any other node too, if the last key is no less than its parent's first grandchild
+    /// could be.
+    fn is_split(&self, node: u64) -> bool {
+        if node == 1 {
+            return self.stands(halving_ends(self.keys, 8), 8);
+        }
+        let reached = self.keys.last().map_or(0, |&last| last) >= 64 * (node / 8);
+        reached && self.stands(self.children_at(node / 8, node % 8), 8 * node)
+    }
+
+    /// Whether a node has the level or a deeper one, and is split.
+    fn is_split_at(&self, level: u32, node: u64) -> bool {
+        is_of_level(level, node) && self.is_split(node)
+    }
+
+    /// The node over a cell of the level: the cell itself if its parent is a split node, else the node over the parent.
+    fn over(&self, level: u32, cell: u64) -> u64 {
+        if level == 0 {
+            return cell;
+        }
+        let above = self.over(level - 1, cell / 8);
+        if self.is_split_at(level - 1, above) {
+            cell
+        } else {
+            above
+        }
+    }
+
+    /// The node over the cell that is lower on the axes of a corner's bits; 0 outside the cube.
+    fn entry(&self, level: u32, of: u64, corner: u32) -> u64 {
+        let mut at = coordinates(of, level);
+        for (axis, c) in at.iter_mut().enumerate() {
+            match c.checked_sub(corner_bit(corner, axis)) {
+                Some(lower) => *c = lower,
+                None => return 0,
+            }
+        }
+        self.over(level, cell(level, at))
+    }
+
+    /// Goes into the children of a cell with a split entry, down to the limit. Else it ends: the cell's low corner is found if all
+    /// entries are nodes and one has the cell's own level.
+    fn go_over(&self, level: u32, cell: u64, found: &mut Vec<(u64, u32)>) {
+        let entries: Vec<u64> = (0..8).map(|corner| self.entry(level, cell, corner)).collect();
+        if entries.iter().any(|&entry| self.is_split_at(level, entry)) {
+            if level < GREATEST_LEVEL {
+                children(cell).for_each(|child| self.go_over(level + 1, child, found));
+            }
+        } else if entries.iter().all(|&entry| entry > 0) && entries.iter().any(|&entry| is_of_level(level, entry)) {
+            found.push((cell * power_of_8(DEEPEST - level) as u64, level));
+        }
+    }
+}
+
+/// Whether a number has the level or a deeper one.
+fn is_of_level(level: u32, number: u64) -> bool {
+    power_of_8(level) <= number as u128
 }
 
 impl Sound {
@@ -260,5 +354,53 @@ impl Tables {
     pub fn finished(state: &[u64; STATE_WORDS], tables: &build::Tables) -> Self {
         let (n, m) = (state[1] as usize, state[2] as usize);
         Tables { keys: tables.keys[..n].to_vec(), distances: tables.distances[..n].to_vec(), leaves: tables.leaves[..m].to_vec() }
+    }
+}
+
+#[cfg(test)]
+mod tests {
+    use super::*;
+    use crate::inputs::{first_cell, Random};
+    use crate::trees::{grown, GROWTHS};
+
+    fn walked(keys: impl IntoIterator<Item = u64>) -> Vec<(u64, u32)> {
+        Tables { keys: keys.into_iter().collect(), ..Tables::default() }.walked()
+    }
+
+    #[test]
+    fn the_walk_over_a_sound_tree_finds_its_vertices() {
+        let mut random = Random::new(1);
+        for round in 0..600 {
+            let tables = grown(GROWTHS[round % 3], round / 10, 15, &mut random);
+            assert_eq!(Ok(tables.walked()), Reading::of(&tables).vertices());
+        }
+    }
+
+    /// The key 8, where halving finds it, splits the root, whose middle is then a vertex.
+    #[test]
+    fn the_walk_over_a_few_keys() {
+        let middle = vec![(0xf000_0000_0000_0000, 1)];
+        for keys in [&[8][..], &[1, 8], &[0, 8, 8], &[8, 9, 1]] {
+            assert_eq!(walked(keys.iter().copied()), middle, "{keys:?}");
+        }
+        for keys in [&[][..], &[1], &[9], &[1, 9], &[8, 1]] {
+            assert_eq!(walked(keys.iter().copied()), vec![], "{keys:?}");
+        }
+    }
+
+    /// First children down to a level, each eight times. A cell that is split at level 15 lacks its one inner corner, where the walk
+    /// would go on; what is split below makes no difference.
+    #[test]
+    fn the_walk_ends_at_level_15() {
+        let down_to = |deepest| walked((1..=deepest).flat_map(|level| [first_cell(level); 8]));
+        for deepest in 1..=15 {
+            assert_eq!(down_to(deepest).len(), 1 + 7 * (deepest as usize - 1), "level {deepest}");
+        }
+        let corner = (vertex(first_cell(15), 15, 7).expect("a cell key with its own level"), 15);
+        let without: Vec<_> = down_to(15).into_iter().filter(|&vertex| vertex != corner).collect();
+        assert_eq!(without.len(), 98);
+        for deepest in 16..=21 {
+            assert_eq!(down_to(deepest), without, "level {deepest}");
+        }
     }
 }
