@@ -1,7 +1,7 @@
 # Reads what `objdump -d` prints of a linked program. For each function it prints `frames NAME BYTES LAST`: how deep its stack goes by the
 # instructions that move the stack pointer, its return address and the functions that it calls among them, and the frame of the last of those. A
-# function that calls itself is taken to do so once for each level, of which there are `levels`; a call itself puts down `on_entry` bytes, 8 on x86-64 and
-# 0 on Arm.
+# function that calls itself is taken to do so once for each level above the limit, of which there are `levels`, and where a tree is trusted once more,
+# since it may have deeper keys; a call itself puts down `on_entry` bytes, 8 on x86-64 and 0 on Arm.
 
 function digits(word) {
     gsub(/[^0-9a-fx-]/, "", word)
@@ -34,7 +34,7 @@ function total(function_name, most, i, below, deepest_last) {
         }
     }
     last = deepest_last
-    return frame[function_name] * (function_name in recursive ? levels : 1) + most
+    return frame[function_name] * (function_name in recursive ? within : 1) + most
 }
 
 /^[0-9a-f]+ <.*>:$/ {
@@ -78,6 +78,7 @@ $2 ~ /^(stp|str)$/ && /\[sp, #-[0-9a-fx]+\]!/ {
 END {
     for (i = 1; i <= count; i++)
         if (names[i] ~ /^mittenhelm_/) {
+            within = names[i] ~ /_trusting$/ ? levels + 1 : levels
             bytes = total(names[i])
             print "frames", names[i], bytes, last
         }

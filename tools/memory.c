@@ -301,6 +301,18 @@ static void list(void)
     measure_both(&call_list, &call_list_trusting, MITTENHELM_ACCEPTED, "list");
 }
 
+/* A list of one who trusts a tree that goes deeper than the limit: the walk ends there, one level deeper than in a sound one. */
+static void list_too_deep(void)
+{
+    for (unsigned child = 0; child < 8; child++)
+        keys[node_count + child] = first_cell(LIMIT + 1) + child;
+    node_count += 8;
+    vertex_room = MOST_VERTICES;
+    measure(&call_list_trusting);
+    expect(answer == MITTENHELM_ACCEPTED, "list of a tree that is too deep");
+    node_count -= 8;
+}
+
 static void look_up(uint32_t expected, const char *what)
 {
     measure_both(&call_look_up, &call_look_up_trusting, expected, what);
@@ -357,6 +369,8 @@ int main(void)
     for (size_t i = 0; i < sizeof rules / sizeof rules[0]; i++) {
         build(rules[i], LIMIT, MOST_NODES);
         expect(keys[node_count - 1] >= first_cell(LIMIT), "a tree down to level 15");
+        if (rules[i] == to_first)
+            list_too_deep();
         read_all();
         for (size_t v = 0; v < vertex_count; v++)
             measure_vertex(vertices[v], levels[v]);
