@@ -18,7 +18,7 @@ use Rattle.morton.proofs.Levels.{and-true, cell-lt, eight-pos, eight-mono}
 use Rattle.morton.proofs.Vertices.{up-pow, down-cell}
 use Rattle.tree.specs.Tree.{Decides}
 use Rattle.vertices.specs.Walk.{childSplit, splitAt, entry, some, all, Spot, inTurn, lowCorner, divided, meets, ending, walked, verticesOf, levelsOf}
-use Rattle.vertices.specs.Block.{marked, Here, Small, BelowMarks, Gaps, lowered, loweredMark, Lowered, LoweredMarks, Touched, PutSays, Laid}
+use Rattle.vertices.specs.Block.{marked, Here, Small, Low, BelowMarks, Gaps, lowered, loweredMark, Lowered, LoweredMarks, Touched, PutSays, Laid}
 use Rattle.vertices.proofs.Offsets.{kept-lt, flip-lt}
 use Rattle.vertices.proofs.Entries.{same, entry-lt, from, entry-step, split-step, node-up, node-down, fine-up, fine-down}
 use Rattle.vertices.proofs.Marks.{marked-zero, some-marked}
@@ -167,8 +167,11 @@ module _ (ks : List ℕ) where
 -- ---- a cell
 
 module _ (ks : List ℕ) (l c : ℕ) (b : List ℕ) (mask : ℕ) (h : Here ks l c b mask) where
+  pub here-low : Low b
+  here-low o ho = omega (arith, h .entries o ho, entry-lt ks l c o, eight-mono {i = l} {j = limit} (h .shallow))
+
   pub here-small : Small b mask
-  here-small o ho e = omega (arith, h .entries o ho, entry-lt ks l c o, eight-mono {i = l} {j = limit} (h .shallow))
+  here-small o ho e = here-low o ho
 
   pub here-bound : c < 2 ^ 60
   here-bound = omega (arith, cell-lt l limit c (h .cell) (h .shallow))
@@ -190,11 +193,11 @@ module _ (ks : List ℕ) (l c : ℕ) (b : List ℕ) (mask : ℕ) (h : Here ks l 
   module _ (q : ℕ) (hq : q < 8) where
     module _ (o : ℕ) (ho : o < 8) where
       -- the parent's entry and its mark, by the block
-      from-is : getD b (bitAnd o (7 - q)) 0 ≡ from ks l c q o hq ho
+      pub from-is : getD b (bitAnd o (7 - q)) 0 ≡ from ks l c q o hq ho
       unfolding from
       from-is = h .entries (bitAnd o (7 - q)) (kept-lt o q ho)
 
-      mark-is : marked mask (bitAnd o (7 - q)) ≡ splitAt ks l (from ks l c q o hq ho)
+      pub mark-is : marked mask (bitAnd o (7 - q)) ≡ splitAt ks l (from ks l c q o hq ho)
       unfolding from
       mark-is = h .marks (bitAnd o (7 - q)) (kept-lt o q ho)
 
@@ -311,7 +314,7 @@ unfolding levelsOf
 levels-length [] = refl
 levels-length (s ∷ ss) = ap suc (levels-length ss)
 
-sets-append : (vs us l : List ℕ) (i : ℕ) → sets l i (vs ++ us) ≡ sets (sets l i vs) (i + length vs) us
+pub sets-append : (vs us l : List ℕ) (i : ℕ) → sets l i (vs ++ us) ≡ sets (sets l i vs) (i + length vs) us
 sets-append [] us l i = ap (λ (n : ℕ). sets l n us) (sym (add-zero i))
 sets-append (v ∷ vs) us l i =
     sets-append vs us (set l i v) (suc i)

@@ -28,12 +28,12 @@ use Rattle.vertices.proofs.Range.{Ranged, joined, ranged-empty, none-he
 
 -- ---- the low corners of a cell's children
 
-corner-add : (l c q : ℕ) → lowCorner l (c + q) ≡ lowCorner l c + q * 8 ^ (deepest - l)
+pub corner-add : (l c q : ℕ) → lowCorner l (c + q) ≡ lowCorner l c + q * 8 ^ (deepest - l)
 unfolding lowCorner
 corner-add l c q = add-mul c q (8 ^ (deepest - l))
 
 module _ (l c : ℕ) (h : l < deepest) where
-  corner-first : lowCorner (suc l) (8 * c) ≡ lowCorner l c
+  pub corner-first : lowCorner (suc l) (8 * c) ≡ lowCorner l c
   unfolding lowCorner
   corner-first =
       ap (λ (n : ℕ). n * 8 ^ (deepest - suc l)) (mul-comm 8 c) ∙ mul-assoc c 8 (8 ^ (deepest - suc l)) ∙ ap (λ (n : ℕ). c * n) (sym unit)
@@ -41,10 +41,10 @@ module _ (l c : ℕ) (h : l < deepest) where
       unit : 8 ^ (deepest - l) ≡ 8 * 8 ^ (deepest - suc l)
       unit = let s : deepest - l ≡ suc (deepest - suc l) = omega arith in ap (λ (n : ℕ). 8 ^ n) s ∙ omega (arith, pow-suc 8 (deepest - suc l))
 
-  corner-le : (q : ℕ) → lowCorner l c ≤ lowCorner (suc l) (8 * c + q)
+  pub corner-le : (q : ℕ) → lowCorner l c ≤ lowCorner (suc l) (8 * c + q)
   corner-le q = omega (arith, corner-add (suc l) (8 * c) q, corner-first)
 
-corner-last : (l c : ℕ) → l < deepest → lowCorner (suc l) (8 * c + 8) ≡ lowCorner l (c + 1)
+pub corner-last : (l c : ℕ) → l < deepest → lowCorner (suc l) (8 * c + 8) ≡ lowCorner l (c + 1)
 corner-last l c h = ap (lowCorner (suc l)) (omega arith) ∙ corner-first l (c + 1) h
 
 -- ---- the walk

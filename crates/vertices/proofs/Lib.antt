@@ -5,8 +5,10 @@ pub mod Marks
 pub mod Blocks
 pub mod Glance
 pub mod Root
+pub mod Places
 pub mod Sound
 pub mod Spot
 pub mod Range
 pub mod Law
+pub mod Storing
 pub mod One

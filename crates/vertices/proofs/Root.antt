@@ -90,7 +90,7 @@ module _ (ks : List ℕ) where
         marks r zero h = marked-first ∙ sym (split-root ∙ r)
         marks r (suc o) h = marked-one (suc o) (omega arith) ∙ sym (split-rest (suc o) (omega arith) h)
 
-    root-none : (StandsAt ks p 8 → ⊥) → spotsOf ks ≡ []
+    pub root-none : (StandsAt ks p 8 → ⊥) → spotsOf ks ≡ []
     unfolding divided spotsOf
     root-none n =
         let r : rootSplit ks ≡ false = stands-root false (stands-no ks p 8 n) in

@@ -2,6 +2,7 @@
 use Prim.Native.Nat.{ℕ, _+_, _*_, _-_, _^_, _≤_, _<_}
 use mathlib.Core.Path.{_≡_}
 use mathlib.Core.Bool.{Bool, true, false, _&&_}
+use mathlib.Core.Logic.{_⊎_}
 use mathlib.Core.List.{List, [], _∷_}
 use lib.Bits.{bitAnd, bitXor}
 use lib.Dec.{eqb}
@@ -9,7 +10,9 @@ use lib.ListN.{length, getD, set}
 use lib.Seq.{sets}
 use Rattle.morton.specs.Field.{bit}
 use Rattle.morton.specs.Level.{limit, if₀, Cell}
-use Rattle.vertices.specs.Walk.{childSplit, splitAt, entry, Spot, verticesOf, levelsOf}
+use Rattle.tree.specs.Climb.{firstFrom}
+use Rattle.vertices.specs.Walk.{childSplit, splitAt, entry, lowCorner, Spot, verticesOf, levelsOf}
+use Rattle.vertices.specs.Cells.{wanted, placeOf, eight, placesOf, Cells}
 
 -- Bit i of a mask is set.
 unfoldable pub marked : ℕ → ℕ → Bool
@@ -86,3 +89,50 @@ PutSays v0 l0 at v l v1 l1 = at < length v0 → at < length l0 → (v1 ≡ set v
 pub record Laid (ss : List Spot) (at r : ℕ) (v0 l0 v1 l1 : List ℕ) : Type 0 where
   pub count : r ≡ at + length ss
   pub tables : r ≤ length v0 → r ≤ length l0 → (v1 ≡ sets v0 at (verticesOf ss)) × (l1 ≡ sets l0 at (levelsOf ss))
+
+-- ---- places
+
+-- No entry's children are more than numbers of 64 bits.
+abbrev pub Low : List ℕ → Type 0
+Low b = (o : ℕ) → o < 8 → getD b o 0 < 2 ^ 57
+
+-- The place of each entry; of a marked one, that of its first child.
+pub record Stands (ks b : List ℕ) (mask : ℕ) (at : List ℕ) : Type 0 where
+  pub each : (o : ℕ) → o < 8 → getD at o 0 ≡ if₀ (marked mask o) (firstFrom ks (length ks) (8 * getD b o 0)) (placeOf ks (getD b o 0))
+
+-- They lie in reach of the table.
+pub record Near (at : List ℕ) (most : ℕ) : Type 0 where
+  pub each : (o : ℕ) → o < 8 → getD at o 0 ≤ most
+
+-- The place of entry o of child q, where none of its entries is split.
+unfoldable pub loweredPlace : List ℕ → ℕ → ℕ → ℕ → ℕ
+loweredPlace at mask q o =
+    if₀ (marked mask (bitAnd o (7 - q))) (getD at (bitAnd o (7 - q)) 0 + bitXor q o) (getD at (bitAnd o (7 - q)) 0)
+
+-- These vertices from a number on, as many as have room, stand from place at on, r being the place after them.
+pub record Stored (ks : List ℕ) (from room : ℕ) (ss : List Spot) (at r : ℕ) (was left : Cells) : Type 0 where
+  pub count : r ≡ at + length (wanted from (room - at) ss)
+  pub vertices-are : left .vertices ≡ sets (was .vertices) at (verticesOf (wanted from (room - at) ss))
+  pub levels-are : left .levels ≡ sets (was .levels) at (levelsOf (wanted from (room - at) ss))
+  pub places-are : left .places ≡ sets (was .places) (8 * at) (placesOf ks (wanted from (room - at) ss))
+
+-- So many vertices have room.
+pub record Roomy (room : ℕ) (c : Cells) : Type 0 where
+  pub vertices : room ≤ length (c .vertices)
+  pub levels : room ≤ length (c .levels)
+  pub places : 8 * room ≤ length (c .places)
+
+-- A vertex that is not wanted leaves the tables; another one stands at its place, and so do its level and the places round it.
+pub record Took (from v l m : ℕ) (eight-places : List ℕ) (was left : Cells) (r : ℕ) : Type 0 where
+  pub wanted-one : from ≤ v
+  pub next : r ≡ m + 1
+  pub vertices-are : left .vertices ≡ set (was .vertices) m v
+  pub levels-are : left .levels ≡ set (was .levels) m l
+  pub places-are : left .places ≡ sets (was .places) (8 * m) eight-places
+
+abbrev pub TakeSays : ℕ → ℕ → ℕ → ℕ → List ℕ → Cells → Cells → ℕ → Type 0
+TakeSays from v l m eight-places was left r = ((v < from) × (r ≡ m) × (left ≡ was)) ⊎ Took from v l m eight-places was left r
+
+-- A cell has nothing that is wanted and has room.
+abbrev pub Skipped : ℕ → ℕ → ℕ → ℕ → ℕ → Type 0
+Skipped l c from m room = (lowCorner l (c + 1) ≤ from) ⊎ (room ≤ m)

@@ -1,13 +1,15 @@
 // The vertices of a finished tree. From `compute_primal_vertices` in src/linear_hashed_marching_cubes.rs of isosurface 0.0.4.
 ghost use mathlib.Core.Path.{_≡_};
 ghost use mathlib.Core.Bool.{true, false};
-ghost use Prim.Native.Nat.{_+_, _-_, _*_, _^_, _<_, _≤_};
+ghost use Prim.Native.Nat.{_+_, _-_, _*_, _/_, _^_, _<_, _≤_, min};
 ghost use lib.ListN.{length, getD};
 ghost use Rattle.morton.specs.Level.{limit, Cell};
 ghost use Rattle.tree.specs.Tree.{treeOf, Decides};
 ghost use Rattle.vertices.specs.Walk.{divided, lowCorner, walked, spotsOf};
+ghost use lib.Seq.{sets};
 ghost use Rattle.vertices.specs.Listing.{listsOf, ListSays, TrustingSays};
-ghost use Rattle.vertices.specs.Block.{seenBy, keptBy, marked, Here, Small, ChildMarks, BelowMarks, Gaps, SeenSays, Lowered, LoweredMarks, Touched, PutSays, Laid};
+ghost use Rattle.vertices.specs.Cells.{eight, cellsOf, CellsSays};
+ghost use Rattle.vertices.specs.Block.{seenBy, keptBy, marked, Here, Small, ChildMarks, BelowMarks, Gaps, SeenSays, Lowered, LoweredMarks, Touched, PutSays, Laid, Low, Stands, Near, loweredPlace, Stored, Roomy, TakeSays, Skipped};
 
 // How many vertices there are, or the number of the refusal.
 pub enum ListAnswer {
@@ -338,4 +340,195 @@ pub fn list(
         return ListAnswer::Refused(11);
     }
     list_trusting(keys, start, vertices, levels)
+}
+
+// The place of each entry, 0 where it is no node; of a marked one, that of its first child. A node stands behind its first sibling, by its number.
+fn places_of(keys: &[u64], block: [u64; 8], mask: u64) -> [usize; 8]
+    requires { ⌜ Low block ⌝ }
+    ensures { λ r. ⌜ Stands (now (keys .entry)) block mask r ⌝ }
+{
+    let mut out = [0usize; 8];
+    let mut o: usize = 0;
+    while o < 8 {
+        let k = block[o];
+        if marked(mask, o) {
+            out[o] = tree::first_from(keys, 8 * k);
+            o += 1;
+        } else {
+            out[o] = tree::first_from(keys, 8 * (k / 8)) + (k % 8) as usize;
+            o += 1;
+        }
+    }
+    out
+}
+
+// Writes the places of child q's entries, none of which is split, for the vertex at a place.
+fn put_places(places: &mut [usize], n: usize, at: [usize; 8], mask: u64, q: usize)
+    requires { ⌜ (q < 8) × (8 * n + 8 ≤ length (now places)) ⌝ }
+    requires { ⌜ Near at (2 ^ 62) ⌝ }
+    ensures { λ _. ⌜ now (places .exit) ≡ sets (now (places .entry)) (8 * n) (eight (loweredPlace at mask q)) ⌝ }
+{
+    let mut o: usize = 0;
+    while o < 8 {
+        let i = o & (7 - q);
+        if marked(mask, i) {
+            places[8 * n + o] = at[i] + (q ^ o);
+            o += 1;
+        } else {
+            places[8 * n + o] = at[i];
+            o += 1;
+        }
+    }
+}
+
+// Whether all vertices of a cell are less than a number.
+fn passed(level: u8, cell: u64, from: u64) -> bool
+    requires { ⌜ (level ≤ limit) × Cell level cell ⌝ }
+    ensures { λ r. ⌜ Decides r (lowCorner level (cell + 1) ≤ from) ⌝ }
+{
+    from >> (63 - level * 3) > cell
+}
+
+// Whether a cell has nothing that is wanted and has room.
+fn skipped(level: u8, cell: u64, from: u64, n: usize, room: usize) -> bool
+    requires { ⌜ (level ≤ limit) × Cell level cell ⌝ }
+    ensures { λ r. ⌜ Decides r (Skipped level cell from n room) ⌝ }
+{
+    if n >= room {
+        return true;
+    }
+    passed(level, cell, from)
+}
+
+// Writes the low corner of child q, with its level and the places round it, unless it is less than a number; the place after it.
+fn take(
+    level: u8,
+    vertex: u64,
+    from: u64,
+    at: [usize; 8],
+    mask: u64,
+    q: usize,
+    vertices: &mut [u64],
+    levels: &mut [u8],
+    places: &mut [usize],
+    n: usize,
+) -> usize
+    requires { ⌜ (q < 8) × Near at (2 ^ 62) ⌝ }
+    requires { ⌜ Roomy (n + 1) (cellsOf (now vertices) (now levels) (now places)) ⌝ }
+    ensures { λ r. ⌜
+        TakeSays from vertex level n (eight (loweredPlace at mask q)) (cellsOf (now (vertices .entry)) (now (levels .entry)) (now (places .entry)))
+        (cellsOf (now (vertices .exit)) (now (levels .exit)) (now (places .exit))) r ⌝ }
+{
+    if vertex < from {
+        return n;
+    }
+    vertices[n] = vertex;
+    levels[n] = level;
+    put_places(places, n, at, mask, q);
+    n + 1
+}
+
+// Writes the wanted vertices of a divided cell from place n on, as many as have room; the place after the last.
+fn gather(
+    keys: &[u64],
+    from: u64,
+    room: usize,
+    level: u8,
+    cell: u64,
+    block: [u64; 8],
+    mask: u64,
+    vertices: &mut [u64],
+    levels: &mut [u8],
+    places: &mut [usize],
+    n: usize,
+) -> usize
+    requires { ⌜ Here (now keys) level cell block mask ⌝ }
+    requires { ⌜ divided (now keys) level cell ≡ true ⌝ }
+    requires { ⌜ (n ≤ room) × Roomy room (cellsOf (now vertices) (now levels) (now places)) ⌝ }
+    ensures { λ r. ⌜
+        Stored (now (keys .entry)) from room (walked (limit - level) (now (keys .entry)) level cell) n r
+        (cellsOf (now (vertices .entry)) (now (levels .entry)) (now (places .entry))) (cellsOf (now (vertices .exit)) (now (levels .exit)) (now (places .exit))) ⌝ }
+{
+    if level as u32 >= morton::LIMIT {
+        return n;
+    }
+    let below = split_below(keys, block, mask);
+    let gaps = gaps_of(block);
+    let at = places_of(keys, block, mask);
+    let mut m = n;
+    let mut q: usize = 0;
+    while q < 8 {
+        let child = 8 * cell + q as u64;
+        if skipped(level + 1, child, from, m, room) {
+            q += 1;
+        } else {
+            let child_mask = lower_mask(mask, below, q);
+            if child_mask == 0 {
+                if touched(gaps, mask, q) {
+                    let vertex = low_corner(level + 1, child);
+                    m = take(
+                        level + 1,
+                        vertex,
+                        from,
+                        at,
+                        mask,
+                        q,
+                        vertices,
+                        levels,
+                        places,
+                        m,
+                    );
+                    q += 1;
+                } else {
+                    q += 1;
+                }
+            } else {
+                let lowered = lower(block, mask, q);
+                m = gather(
+                    keys,
+                    from,
+                    room,
+                    level + 1,
+                    child,
+                    lowered,
+                    child_mask,
+                    vertices,
+                    levels,
+                    places,
+                    m,
+                );
+                q += 1;
+            }
+        }
+    }
+    m
+}
+
+fn shorter(a: usize, b: usize) -> usize
+    ensures { λ r. ⌜ r ≡ min a b ⌝ }
+{
+    if a <= b { a } else { b }
+}
+
+// The vertices from a number on, as many as have room, each with its level and the places of the eight nodes of its dual cell; how many there are. For
+// one who knows that the tree is sound; of other tables, what the same walk comes to.
+pub fn cells_trusting(
+    keys: &[u64],
+    from: u64,
+    vertices: &mut [u64],
+    levels: &mut [u8],
+    places: &mut [usize],
+) -> usize
+    ensures { λ r. ⌜
+        CellsSays (now (keys .entry)) from (cellsOf (now (vertices .entry)) (now (levels .entry)) (now (places .entry)))
+        (cellsOf (now (vertices .exit)) (now (levels .exit)) (now (places .exit))) r ⌝ }
+{
+    let pairs = shorter(vertices.len(), levels.len());
+    let room = shorter(pairs, places.len() / 8);
+    let root = [1, 0, 0, 0, 0, 0, 0, 0];
+    let at = tree::first_from(keys, 8);
+    if tree::stands(keys, at, 8) {
+        return gather(keys, from, room, 0, 1, root, 1, vertices, levels, places, 0);
+    }
+    0
 }
