@@ -50,7 +50,7 @@ corner-last l c h = ap (lowCorner (suc l)) (omega arith) ∙ corner-first l (c +
 -- ---- the walk
 
 module _ (ks : List ℕ) where
-  meets-is : (l c : ℕ) → meets ks l c ≡ true → Meets ks l c
+  pub meets-is : (l c : ℕ) → meets ks l c ≡ true → Meets ks l c
   unfolding meets
   meets-is l c e =
       let b = and-true _ _ e in
@@ -72,7 +72,7 @@ module _ (ks : List ℕ) where
 
   module _ (t : SoundKeys ks) where
     -- a divided cell is above the limit
-    divided-lt : (l c : ℕ) → Fresh ks l c → divided ks l c ≡ true → l < limit
+    pub divided-lt : (l c : ℕ) → Fresh ks l c → divided ks l c ≡ true → l < limit
     unfolding divided
     divided-lt l c f d =
         let o = some-is (λ o. splitAt ks l (entry ks l c o)) 8 d in

@@ -11,4 +11,5 @@ pub mod Spot
 pub mod Range
 pub mod Law
 pub mod Storing
+pub mod Rounds
 pub mod One

@@ -202,13 +202,38 @@ module _ (ks : List ℕ) where
     unfolding rootSplit
     root-decides = stands-decides (firstFrom ks (length ks) 8) 8 (first-from ks (t .sound .ascending) 8)
 
+    -- any other key has a parent, and so a first sibling
+    large : (k : ℕ) → In k ks → (k ≡ 1 → ⊥) → 8 ≤ k
+    large k m n = go (level k) refl
+      where
+        c : Cell (level k) k
+        c = t .sound .cells k m .0
+
+        go : (L : ℕ) → level k ≡ L → 8 ≤ k
+        go zero e = absurd (n (omega (arith, ap (λ (j : ℕ). 8 ^ j) e, c .low, c .high)))
+        go (suc L) e = omega (arith, ap (λ (j : ℕ). 8 ^ j) e, c .low, pow-suc 8 L, eight-pos L)
+
+    first-sibling : (k : ℕ) → In k ks → (k ≡ 1 → ⊥) → In (8 * (k / 8)) ks
+    first-sibling k m n =
+        let up : In (k / 8) ks = in-cast (omega (arith, large k m n)) (t .sound .parents k m n) in
+        ⊎-elim (λ a. in-cast (omega arith) (a 0 (omega arith))) (λ f. absurd (f (k % 8) (omega arith) (in-cast (omega arith) m))) (t .sound .children (k / 8) up)
+
+    -- and stands behind it
+    pub place-stands : (k : ℕ) → In k ks → (k ≡ 1 → ⊥) → StandsAt ks (firstFrom ks (length ks) (8 * (k / 8)) + k % 8) k
+    place-stands k m n =
+        let e : 8 * (k / 8) + k % 8 ≡ k = omega arith in
+        first-stands ks (t .sound .ascending) k (firstFrom ks (length ks) (8 * (k / 8)) + k % 8)
+        (subst (λ (j : ℕ). FirstFrom ks j (firstFrom ks (length ks) (8 * (k / 8)) + k % 8)) e
+        (first-run ks (t .sound .ascending) (k % 8) (8 * (k / 8)) (firstFrom ks (length ks) (8 * (k / 8)))
+        (λ i l. split-children (k / 8) (first-sibling k m n) i (omega arith)) (first-from ks (t .sound .ascending) (8 * (k / 8))))) m
+
     split-decides : (k : ℕ) → In k ks → Decides (isSplit ks k) (In (8 * k) ks)
     unfolding isSplit
     split-decides k m =
         elim (ℕ-discrete k 1) [
           | yes e ↦ rw (eq-eqb k 1 e) (decides-as (rootSplit ks) (in-cast (omega arith)) (in-cast (omega arith)) root-decides)
           | no n ↦
-              let up : In (8 * (k / 8)) ks = first-child k m n in
+              let up : In (8 * (k / 8)) ks = first-sibling k m n in
               let b : 8 * (8 * (k / 8) + k % 8) ≡ 8 * k = omega arith in
               rw (ne-eqb k 1 n)
               (decides-as (childSplit ks (k / 8) (k % 8)) (in-cast (sym b)) (in-cast b) (child-decides (k / 8) up (k % 8) (omega arith)))
@@ -217,22 +242,6 @@ module _ (ks : List ℕ) where
         decides-as : {P Q : Type 0} (r : Bool) → (P → Q) → (Q → P) → Decides r P → Decides r Q
         decides-as true f g d = f d
         decides-as false f g d = λ q. d (g q)
-
-        -- any other key has a parent, and so a first sibling
-        large : (k : ℕ) → In k ks → (k ≡ 1 → ⊥) → 8 ≤ k
-        large k m n = go (level k) refl
-          where
-            c : Cell (level k) k
-            c = t .sound .cells k m .0
-
-            go : (L : ℕ) → level k ≡ L → 8 ≤ k
-            go zero e = absurd (n (omega (arith, ap (λ (j : ℕ). 8 ^ j) e, c .low, c .high)))
-            go (suc L) e = omega (arith, ap (λ (j : ℕ). 8 ^ j) e, c .low, pow-suc 8 L, eight-pos L)
-
-        first-child : (k : ℕ) → In k ks → (k ≡ 1 → ⊥) → In (8 * (k / 8)) ks
-        first-child k m n =
-            let up : In (k / 8) ks = in-cast (omega (arith, large k m n)) (t .sound .parents k m n) in
-            ⊎-elim (λ a. in-cast (omega arith) (a 0 (omega arith))) (λ f. absurd (f (k % 8) (omega arith) (in-cast (omega arith) m))) (t .sound .children (k / 8) up)
 
     -- ---- the walk's entries
 

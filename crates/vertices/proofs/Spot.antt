@@ -77,7 +77,7 @@ cell-of : (l c v : ℕ) → lowCorner l c ≤ v → v < lowCorner l (c + 1) → 
 unfolding lowCorner
 cell-of l c v lo hi = div-eq-of-lt-le (8 ^ (deepest - l)) lo (omega (arith, pow-suc 8 l))
 
-corner-cell : (l c : ℕ) → lowCorner l c / 8 ^ (deepest - l) ≡ c
+pub corner-cell : (l c : ℕ) → lowCorner l c / 8 ^ (deepest - l) ≡ c
 unfolding lowCorner
 corner-cell l c = mul-div-cancel c (eight-pos (deepest - l))
 
@@ -272,7 +272,7 @@ module _ (ks : List ℕ) (t : SoundKeys ks) where
 
   module _ (l c : ℕ) (hl : l ≤ limit) (cc : Cell l c) (blk : Block ks l c)
       (still : (o : ℕ) → o < 8 → splitAt ks l (entry ks l c o) ≡ false) (m : Meets ks l c) where
-    coord-some : (a : ℕ) → a < 3 → 1 ≤ coord l c a
+    pub coord-some : (a : ℕ) → a < 3 → 1 ≤ coord l c a
     unfolding Within
     coord-some a h =
         elim (within-or-not l c 7) [
