@@ -294,6 +294,8 @@ impl Given {
     fn cells_around(&self, some: usize, [vertices, levels]: [usize; 2], seen: &mut Seen) {
         let placed = self.placed();
         let vertex = placed.get(some % placed.len().max(1)).map_or(0, |at| at.vertex);
+        // More room than this makes no difference, and takes its time.
+        let [vertices, levels] = [vertices, levels].map(|length| length.min(placed.len() + 9));
         let places = 8 * vertices.min(levels);
         let lengths = [places, places.saturating_sub(1), places + 7];
         for (i, from) in [0, vertex, vertex + 1, u64::MAX].into_iter().enumerate() {
