@@ -161,6 +161,15 @@ uint32_t mittenhelm_list_trusting(
     const uint64_t *keys, size_t keys_length,
     size_t start, uint64_t *vertices, size_t vertices_length, uint8_t *levels, size_t levels_length, size_t *count);
 
+/* Writes the vertices that are no less than `from`, ascending and each with its level, as many as have room in all three tables,
+ * and answers how many; `places` takes eight for each: where in keys and distances the nodes of its dual cell stand, in corner
+ * order (of a tree that isn't sound, perhaps past the end). A host with room for one at least begins with `from` 0, goes on with
+ * the last vertex + 1, and is done when fewer came than have room. No refusal. */
+size_t mittenhelm_cells_trusting(
+    const uint64_t *keys, size_t keys_length,
+    uint64_t from, uint64_t *vertices, size_t vertices_length, uint8_t *levels, size_t levels_length,
+    size_t *places, size_t places_length);
+
 /* As mittenhelm_dual_cell of a tree that was checked before; a side for which nothing is found, as there is none in a sound tree,
  * gives the key 0 and the distance 0. Refusal 4, also where there is one key, which is the root alone. */
 uint32_t mittenhelm_dual_cell_trusting(

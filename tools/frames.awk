@@ -1,7 +1,8 @@
 # Reads what `objdump -d` prints of a linked program. For each function it prints `frames NAME BYTES LAST`: how deep its stack goes by the
 # instructions that move the stack pointer, its return address and the functions that it calls among them, and the frame of the last of those. A
 # function that calls itself is taken to do so once for each level above the limit, of which there are `levels`, and where a tree is trusted once more,
-# since it may have deeper keys; a call itself puts down `on_entry` bytes, 8 on x86-64 and 0 on Arm.
+# since it may have deeper keys: there it returns at once. A call itself puts down `on_entry` bytes, 8 on x86-64 and 0 on Arm. Functions go by their
+# addresses, since two objects may each have their own of one name.
 
 function digits(word) {
     gsub(/[^0-9a-fx-]/, "", word)
@@ -18,40 +19,48 @@ function from_hex(word, n, i) {
 
 function deepen(bytes) {
     depth += bytes
-    if (frame[name] < depth)
-        frame[name] = depth
+    if (frame[at] < depth)
+        frame[at] = depth
 }
 
 # How deep the stack of a function goes; `last` is then the frame of the last function on the way.
-function total(function_name, most, i, below, deepest_last) {
+function total(at, most, i, below, deepest_last) {
     most = 0
-    deepest_last = frame[function_name]
-    for (i = 1; i <= calls[function_name]; i++) {
-        below = total(callee[function_name, i])
+    deepest_last = frame[at]
+    if (at in recursive && trusting)
+        most = frame[at]
+    for (i = 1; i <= calls[at]; i++) {
+        below = total(callee[at, i])
         if (below > most) {
             most = below
             deepest_last = last
         }
     }
     last = deepest_last
-    return frame[function_name] * (function_name in recursive ? within : 1) + most
+    return frame[at] * (at in recursive ? levels : 1) + most
+}
+
+function address(word) {
+    sub(/^0+/, "", word)
+    return word
 }
 
 /^[0-9a-f]+ <.*>:$/ {
-    name = substr($2, 2, length($2) - 3)
-    names[++count] = name
-    depth = frame[name] = on_entry
+    at = address($1)
+    places[++count] = at
+    names[count] = substr($2, 2, length($2) - 3)
+    depth = frame[at] = on_entry
     below_prologue = 0
     next
 }
 
 # The name alone, without a place in it: a call, or a jump in place of one.
 $2 ~ /^(call|bl|jmp|b)$/ && $NF ~ /^<[^+]+>$/ {
-    called = substr($NF, 2, length($NF) - 2)
-    if (called != name)
-        callee[name, ++calls[name]] = called
+    called = address($(NF - 1))
+    if (called != at)
+        callee[at, ++calls[at]] = called
     else if ($2 ~ /^(call|bl)$/)
-        recursive[name] = 1
+        recursive[at] = 1
 }
 
 # x86-64: registers are kept, places are made, and arguments are put down before a call and taken off behind it.
@@ -78,8 +87,8 @@ $2 ~ /^(stp|str)$/ && /\[sp, #-[0-9a-fx]+\]!/ {
 END {
     for (i = 1; i <= count; i++)
         if (names[i] ~ /^mittenhelm_/) {
-            within = names[i] ~ /_trusting$/ ? levels + 1 : levels
-            bytes = total(names[i])
+            trusting = names[i] ~ /_trusting$/
+            bytes = total(places[i])
             print "frames", names[i], bytes, last
         }
 }

@@ -27,6 +27,7 @@ static uint64_t keys[MOST_NODES], leaves[MOST_LEAVES], queue[MOST_LEAVES], state
 static float distances[MOST_NODES];
 static uint64_t vertices[MOST_VERTICES];
 static uint8_t levels[MOST_VERTICES];
+static size_t places[8 * MOST_VERTICES];
 static size_t node_room, leaf_room, node_count, leaf_count, vertex_room, vertex_count;
 static uint32_t bound, level, which, exponent;
 static uint64_t given, other;
@@ -122,6 +123,7 @@ static uint64_t answer;
 #define NODES keys, node_count, distances, node_count
 #define TREE NODES, leaves, leaf_count
 #define LIST 0, vertices, vertex_room, levels, vertex_room, &vertex_count
+#define CELLS vertices, vertex_room, levels, vertex_room, places, 8 * vertex_room
 #define FOUND &key_out, &distance_out, &number_out
 #define CELL cell_keys, cell_distances, &number_out
 
@@ -145,13 +147,14 @@ CALL(list, (TREE, LIST))
 CALL(dual_cell, (TREE, given, level, CELL))
 CALL(look_up_trusting, (NODES, given, FOUND))
 CALL(list_trusting, (keys, node_count, LIST))
+CALL(cells_trusting, (keys, node_count, given, CELLS))
 CALL(dual_cell_trusting, (NODES, given, level, CELL))
 CALL(slab, (given, level, exponent, &number_out))
 
 static struct call *const calls[] = {&call_level, &call_is_cell, &call_parent, &call_add, &call_sub, &call_child, &call_half_size,
     &call_centre, &call_vertex, &call_is_inner, &call_side, &call_should_refine, &call_start, &call_distance, &call_sound,
-    &call_look_up, &call_list, &call_dual_cell, &call_look_up_trusting, &call_list_trusting, &call_dual_cell_trusting,
-    &call_slab};
+    &call_look_up, &call_list, &call_dual_cell, &call_look_up_trusting, &call_list_trusting, &call_cells_trusting,
+    &call_dual_cell_trusting, &call_slab};
 
 /* Inputs. */
 
@@ -301,6 +304,23 @@ static void list(void)
     measure_both(&call_list, &call_list_trusting, MITTENHELM_ACCEPTED, "list");
 }
 
+/* Vertices with their places, in all rooms: none, for one, which is the last of the list that was made before, and for all. */
+static void cells(void)
+{
+    vertex_room = 0;
+    given = 0;
+    measure(&call_cells_trusting);
+    expect(answer == 0, "cells without room");
+    vertex_room = 1;
+    given = vertices[vertex_count - 1];
+    measure(&call_cells_trusting);
+    expect(answer == 1 && vertices[0] == given, "the last cell");
+    vertex_room = MOST_VERTICES;
+    given = 0;
+    measure(&call_cells_trusting);
+    expect(answer == vertex_count, "as many cells as the list has");
+}
+
 /* A list of one who trusts a tree that goes deeper than the limit: the walk ends there, one level deeper than in a sound one. */
 static void list_too_deep(void)
 {
@@ -310,6 +330,9 @@ static void list_too_deep(void)
     vertex_room = MOST_VERTICES;
     measure(&call_list_trusting);
     expect(answer == MITTENHELM_ACCEPTED, "list of a tree that is too deep");
+    given = 0;
+    measure(&call_cells_trusting);
+    expect(answer == vertex_count, "cells of a tree that is too deep");
     node_count -= 8;
 }
 
@@ -329,6 +352,7 @@ static void read_all(void)
     measure(&call_sound);
     expect(answer == 1, "a finished build is sound");
     list();
+    cells();
     for (size_t i = 0; i < node_count; i++) {
         given = keys[i];
         look_up(MITTENHELM_ACCEPTED, "look_up");

@@ -1,6 +1,6 @@
 //! What each side answers for a tree, so that only equal work is timed.
 
-use crate::ours::{checked, dual_cell, look_ups, Building, Finished, Listing};
+use crate::ours::{checked, dual_cell, look_ups, Batch, Building, Finished, Listing};
 use crate::text::Text;
 
 /// The answers of one side, floats as their bits.
@@ -14,6 +14,8 @@ pub struct Answers {
     pub cells: Vec<[u64; 8]>,
     /// What the timed search for all dual cells sums up to.
     pub sum_of_cells: u64,
+    /// The same for the list and all dual cells.
+    pub sum_of_listed_cells: u64,
     /// What the timed lookups sum up to.
     pub sum_of_look_ups: u64,
 }
@@ -36,6 +38,7 @@ impl Answers {
             vertices: listing.listed().collect(),
             cells: listing.listed().map(|(vertex, level)| dual_cell(checked(tree), vertex, level).keys).collect(),
             sum_of_cells: listing.dual_cells(tree),
+            sum_of_listed_cells: Batch::new().dual_cells(tree),
             sum_of_look_ups: look_ups(tree, keys),
         }
     }
@@ -47,10 +50,12 @@ impl Answers {
         let vertices = T::vertices(&octree);
         let listed = T::listed(&vertices);
         let node_keys: Vec<u64> = nodes.iter().map(|&(key, _)| key).collect();
+        let sum_of_cells = T::dual_cells(&octree, vertices);
         let key_at = |place: Option<usize>| place.map_or(0, |place| node_keys[place]);
         Answers {
             cells: T::places(&node_keys, &leaves, &listed).into_iter().map(|places| places.map(key_at)).collect(),
-            sum_of_cells: T::dual_cells(&octree, vertices),
+            sum_of_cells,
+            sum_of_listed_cells: sum_of_cells,
             sum_of_look_ups: T::look_ups(&octree, keys),
             nodes: nodes.into_iter().map(|(key, distance)| (key, distance.to_bits())).collect(),
             vertices: listed.into_iter().map(|(vertex, level)| (vertex, level as u32)).collect(),
@@ -66,6 +71,7 @@ impl Answers {
             ("vertices", self.vertices == other.vertices),
             ("dual cells", self.cells == other.cells),
             ("sum of the dual cells", self.sum_of_cells == other.sum_of_cells),
+            ("sum of the list's dual cells", self.sum_of_listed_cells == other.sum_of_listed_cells),
             ("sum of the lookups", self.sum_of_look_ups == other.sum_of_look_ups),
         ];
         parts.iter().find(|(_, same)| !same).map(|&(part, _)| part)

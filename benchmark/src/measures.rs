@@ -1,7 +1,7 @@
 //! What is measured of a tree, on each side.
 
 use crate::answers::Answers;
-use crate::ours::{look_ups, Building, Finished, Listing};
+use crate::ours::{look_ups, Batch, Building, Finished, Listing};
 use crate::text::{Integer, Published, Text};
 use crate::timing::{best, run, run_prepared, Run};
 use crate::trees::{Case, LOOK_UPS};
@@ -100,7 +100,7 @@ fn times(measure: Measure, case: &Case, keys: &[u64], as_published: bool, least:
 }
 
 fn of_ours<'a>(measure: Measure, case: &'a Case, keys: &'a [u64]) -> Run<'a> {
-    let (mut building, mut listing) = (Building::new(), Listing::new());
+    let (mut building, mut listing, mut batch) = (Building::new(), Listing::new(), Batch::new());
     let state = building.build_ready(case.bound, &case.distances).expect("room for the tree");
     let finished: Finished = building.finished(state);
     listing.list(finished.tree());
@@ -108,10 +108,7 @@ fn of_ours<'a>(measure: Measure, case: &'a Case, keys: &'a [u64]) -> Run<'a> {
         Measure::Build => run(move || building.build_ready(case.bound, &case.distances)),
         Measure::List => run(move || listing.list(finished.tree())),
         Measure::DualCells => run(move || listing.dual_cells(finished.tree())),
-        Measure::ListAndDualCells => run(move || {
-            listing.list(finished.tree());
-            listing.dual_cells(finished.tree())
-        }),
+        Measure::ListAndDualCells => run(move || batch.dual_cells(finished.tree())),
         Measure::LookUps => run(move || look_ups(finished.tree(), keys)),
         Measure::Soundness => run(move || finished.tree().sound()),
     }

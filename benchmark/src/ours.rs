@@ -118,6 +118,42 @@ impl Default for Listing {
     }
 }
 
+/// So many vertices are asked for at a time.
+pub const BATCH: usize = 512;
+
+/// The memory of vertices with the places of their nodes.
+pub struct Batch {
+    vertices: Vec<u64>,
+    levels: Vec<u8>,
+    places: Vec<usize>,
+}
+
+impl Batch {
+    pub fn new() -> Self {
+        Batch { vertices: vec![0; BATCH], levels: vec![0; BATCH], places: vec![0; 8 * BATCH] }
+    }
+
+    /// Checks the tree, and finds all vertices with the nodes of their dual cells; the sum of the bits of their distances.
+    pub fn dual_cells(&mut self, tree: Tree) -> u64 {
+        let sound = checked(tree);
+        let (mut sum, mut from) = (0, 0);
+        loop {
+            let count = sound.cells(from, &mut self.vertices, &mut self.levels, &mut self.places);
+            sum += self.places[..8 * count].iter().map(|&place| tree.distances[place].to_bits() as u64).sum::<u64>();
+            if count < BATCH {
+                return sum;
+            }
+            from = self.vertices[BATCH - 1] + 1;
+        }
+    }
+}
+
+impl Default for Batch {
+    fn default() -> Self {
+        Batch::new()
+    }
+}
+
 /// Checks the tree, and looks up each key; the sum of the keys found and of the bits of their distances.
 pub fn look_ups(tree: Tree, keys: &[u64]) -> u64 {
     let tree = checked(tree);

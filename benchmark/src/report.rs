@@ -2,7 +2,7 @@
 
 use crate::machine;
 use crate::measures::{Measure, Row, Times, MEASURES};
-use crate::ours::FORM;
+use crate::ours::{BATCH, FORM};
 use crate::trees::{is_near, SIZES};
 
 /// From this line on a written report is kept as it is when another is written over it.
@@ -63,6 +63,8 @@ works in tables that are lent.
 - **List.** Ours writes all vertices, ascending, into lent tables; the Rust makes its hash map.
 - **All dual cells.** For each vertex of the list the eight nodes. Of the Rust this is the search in `extract_surface`, with nothing of the triangles. \
 Both sides sum up the distances found. Ours uses {form}.
+- **List and all dual cells.** Ours asks for vertices with the places of their nodes, {batch} at a time, after one check, and sums up the distances \
+there; the Rust makes its hash map, and searches.
 - **Lookups.** 10,000 random cell keys, each level from 0 to 21 as often as the others: the deepest present of the key and its ancestors. Of the Rust, \
 `get_node` on each of them in turn. Ours uses the same form of call.
 - **Soundness** is ours alone: whether the tables hold a sound tree.
@@ -72,6 +74,7 @@ machine's speed meets both. A ratio is the Rust's time by ours: above 1, ours is
         machine = machine::described(),
         sizes = listed(&SIZES),
         form = FORM,
+        batch = BATCH,
     )
 }
 

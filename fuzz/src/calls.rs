@@ -54,6 +54,7 @@ pub const CALLS: &[Call] = &[
     refusing("dual_cell", &[11, 4], reading::dual_cell),
     Call { name: "look_up_trusting", accepts: &["found", "nothing"], refuses: &[1], feed: reading::look_up_trusting },
     Call { name: "list_trusting", accepts: &["vertices", "none"], refuses: &[12], feed: reading::list_trusting },
+    total("cells_trusting", &["vertices", "none"], reading::cells_trusting),
     refusing("dual_cell_trusting", &[4], reading::dual_cell_trusting),
     refusing("slab", &[4, 5], keys::slab),
 ];

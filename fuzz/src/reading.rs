@@ -5,18 +5,19 @@ use crate::calls::{yes_or_no, ACCEPTED};
 use crate::case::{number, or_edge, same, told, Case, Checked, Out};
 use crate::keys::vertex_and_level;
 use mittenhelm::raw::{
-    mittenhelm_dual_cell, mittenhelm_dual_cell_trusting, mittenhelm_list, mittenhelm_list_trusting, mittenhelm_look_up,
-    mittenhelm_look_up_trusting, mittenhelm_sound,
+    mittenhelm_cells_trusting, mittenhelm_dual_cell, mittenhelm_dual_cell_trusting, mittenhelm_list, mittenhelm_list_trusting,
+    mittenhelm_look_up, mittenhelm_look_up_trusting, mittenhelm_sound,
 };
 use oracle_answers::broken::{change, BREAKS};
 use oracle_answers::fields::{field, KINDS};
 use oracle_answers::inputs::Random;
-use oracle_answers::lent::{one_nan, Fenced};
-use oracle_answers::model::reading::{write_list, DualCell, Lookup, Reading, Tables};
+use oracle_answers::lent::{levels_before, one_nan, places_before, vertices_before, Fenced};
+use oracle_answers::model::reading::{write_list, write_placed, DualCell, Lookup, Placed, Reading, Tables};
 use oracle_answers::model::{self, level, Answer};
 use oracle_answers::questions::{asked, great_starts, lengths};
 use oracle_answers::trees::{grown, small, Tree, GROWTHS};
 use std::cell::RefCell;
+use std::rc::Rc;
 
 /// How often a case makes its call on its tree.
 const TIMES: u32 = 20;
@@ -83,8 +84,8 @@ pub struct Given {
     reading: Reading,
     /// The vertices with their levels; none, where the tree isn't sound.
     vertices: Vec<(u64, u32)>,
-    /// What the walk finds of a tree that isn't sound, once it was asked for.
-    walked: RefCell<Option<Vec<(u64, u32)>>>,
+    /// Vertices with the places round them, once they were asked for.
+    placed: RefCell<Option<Rc<Vec<Placed>>>>,
 }
 
 impl Given {
@@ -97,7 +98,7 @@ impl Given {
             vertices: reading.vertices().unwrap_or_default(),
             reading,
             tables,
-            walked: RefCell::new(None),
+            placed: RefCell::new(None),
         }
     }
 
@@ -106,7 +107,13 @@ impl Given {
         if self.reading.is_sound() {
             return self.vertices.clone();
         }
-        self.walked.borrow_mut().get_or_insert_with(|| self.tables.walked()).clone()
+        self.placed().iter().map(|at| (at.vertex, at.level)).collect()
+    }
+
+    /// The same with the places of the nodes round each.
+    fn placed(&self) -> Rc<Vec<Placed>> {
+        let place = || Rc::new(self.reading.placed().unwrap_or_else(|_| self.tables.placed()));
+        self.placed.borrow_mut().get_or_insert_with(place).clone()
     }
 
     fn parts(&self) -> Parts {
@@ -235,8 +242,7 @@ impl Given {
         model: impl Fn(usize, &mut [u64], &mut [u8]) -> Answer<usize>,
     ) -> Checked {
         let (start, [vertices, levels]) = self.some_room(count, &mut case.random);
-        let mut vertices: Vec<u64> = (0..vertices as u64).map(|place| 0x0bad_0000_0000_0000 + place).collect();
-        let mut levels: Vec<u8> = (0..levels).map(|place| 0x80 + (place % 0x70) as u8).collect();
+        let (mut vertices, mut levels) = (vertices_before(vertices), levels_before(levels));
         let (mut our_vertices, mut our_levels, mut count) = (Fenced::new(&vertices), Fenced::new(&levels), Out::<usize>::new());
         let said = ours(start, our_vertices.lend(), our_levels.lend(), count.place());
         let expected = model(start, &mut vertices, &mut levels);
@@ -248,6 +254,45 @@ impl Given {
         let way = expected.map(|count| if count == 0 { "none" } else { "vertices" });
         let arguments = || format!("{}, {start:#x}, tables of {} and {}", self.told(), vertices.len(), levels.len());
         case.judge(name, said, way, &differences, arguments)
+    }
+
+    /// A number that vertices are wanted from: 0, about a vertex, or any.
+    fn some_from(&self, placed: &[Placed], random: &mut Random) -> u64 {
+        match random.below(6) {
+            0 => 0,
+            1 => number(random),
+            _ if placed.is_empty() => self.some_key(random),
+            _ => placed[random.below(placed.len() as u64) as usize].vertex.wrapping_add(random.below(3)).wrapping_sub(1),
+        }
+    }
+
+    fn cells_trusting(&self, case: &mut Case) -> Checked {
+        let placed = self.placed();
+        let from = self.some_from(&placed, &mut case.random);
+        let (_, [vertices, levels]) = self.some_room(placed.len(), &mut case.random);
+        let places = match case.random.below(3) {
+            0 => 8 * vertices.min(levels),
+            1 => 8 * placed.len() + case.random.below(9) as usize,
+            _ => case.random.below(8 * placed.len() as u64 + 9) as usize,
+        };
+        let (mut vertices, mut levels, mut places) = (vertices_before(vertices), levels_before(levels), places_before(places));
+        let (mut our_vertices, mut our_levels, mut our_places) =
+            (Fenced::new(&vertices), Fenced::new(&levels), Fenced::new(&places));
+        let ((keys, k, ..), v, l, p) = (self.parts(), our_vertices.lend(), our_levels.lend(), our_places.lend());
+        let said = unsafe {
+            let (vertices, levels, places) = (v.as_mut_ptr(), l.as_mut_ptr(), p.as_mut_ptr());
+            mittenhelm_cells_trusting(keys, k, from, vertices, v.len(), levels, l.len(), places, p.len())
+        };
+        let expected = write_placed(&placed, from, &mut vertices, &mut levels, &mut places);
+        let differences = self.with_tables([
+            same(&said, &expected, "count"),
+            our_vertices.difference(&vertices, "vertices"),
+            our_levels.difference(&levels, "levels"),
+            our_places.difference(&places, "places"),
+        ]);
+        let way = if expected == 0 { "none" } else { "vertices" };
+        let lengths = [vertices.len(), levels.len(), places.len()];
+        case.judge("cells_trusting", 0, Ok(way), &differences, || format!("{}, {from:#x}, tables of {lengths:?}", self.told()))
     }
 
     /// A listed vertex, a corner of a cell in or below the tree, or any number; with its level or another one.
@@ -309,6 +354,7 @@ impl Given {
         self.dual_cell(case)?;
         self.look_up_trusting(case)?;
         self.list_trusting(case)?;
+        self.cells_trusting(case)?;
         self.dual_cell_trusting(case)
     }
 }
@@ -395,6 +441,10 @@ pub fn look_up_trusting(case: &mut Case) -> Checked {
 
 pub fn list_trusting(case: &mut Case) -> Checked {
     of_tree(case, Given::list_trusting)
+}
+
+pub fn cells_trusting(case: &mut Case) -> Checked {
+    of_tree(case, Given::cells_trusting)
 }
 
 pub fn dual_cell_trusting(case: &mut Case) -> Checked {

@@ -128,6 +128,17 @@ pub mod raw {
             levels_length: usize,
             count: &mut usize,
         ) -> u32;
+        pub fn mittenhelm_cells_trusting(
+            keys: *const u64,
+            keys_length: usize,
+            from: u64,
+            vertices: *mut u64,
+            vertices_length: usize,
+            levels: *mut u8,
+            levels_length: usize,
+            places: *mut usize,
+            places_length: usize,
+        ) -> usize;
         pub fn mittenhelm_dual_cell_trusting(
             keys: *const u64,
             keys_length: usize,
@@ -517,6 +528,27 @@ impl<'a> SoundTree<'a> {
         listed(vertices, levels, |vertices, v, levels, l, count| unsafe {
             raw::mittenhelm_list_trusting(keys.as_ptr(), keys.len(), start, vertices, v, levels, l, count)
         })
+    }
+
+    /// Writes the vertices that are no less than `from`, ascending and each with its level, as many as have room in all three
+    /// tables, and answers how many. `places` takes eight for each: where in the tree's keys and distances the nodes of its dual
+    /// cell stand, in corner order. Who wants all and has room for one at least begins with 0, goes on with the last vertex + 1,
+    /// and is done when fewer came than have room.
+    pub fn cells(&self, from: u64, vertices: &mut [u64], levels: &mut [u8], places: &mut [usize]) -> usize {
+        let keys = self.tree.keys;
+        unsafe {
+            raw::mittenhelm_cells_trusting(
+                keys.as_ptr(),
+                keys.len(),
+                from,
+                vertices.as_mut_ptr(),
+                vertices.len(),
+                levels.as_mut_ptr(),
+                levels.len(),
+                places.as_mut_ptr(),
+                places.len(),
+            )
+        }
     }
 
     /// As `Tree::dual_cell`, without a check of the tree.

@@ -1,6 +1,7 @@
 // The boundary for hosts, reading a tree that was checked before: numbers and slices only. include/mittenhelm.h declares each function for C.
 ghost use Rattle.tree.specs.Climb.{trustingOf};
 ghost use Rattle.vertices.specs.Listing.{listsOf};
+ghost use Rattle.vertices.specs.Cells.{cellsOf, CellsSays};
 ghost use Rattle.mittenhelm_reading.specs.Reading.{foundAt, HandsFound, eightAt};
 ghost use Rattle.mittenhelm_trusting.specs.Trusting.{HandsTrustedList, HandsTrustedDual};
 
@@ -37,6 +38,21 @@ pub extern "C" fn mittenhelm_list_trusting(
 {
     let answer = vertices::list_trusting(keys, start, vertices, levels);
     mittenhelm_reading::hand_count(answer, count)
+}
+
+#[no_mangle]
+pub extern "C" fn mittenhelm_cells_trusting(
+    keys: &[u64],
+    from: u64,
+    vertices: &mut [u64],
+    levels: &mut [u8],
+    places: &mut [usize],
+) -> usize
+    ensures { λ r. ⌜
+        CellsSays (now (keys .entry)) from (cellsOf (now (vertices .entry)) (now (levels .entry)) (now (places .entry)))
+        (cellsOf (now (vertices .exit)) (now (levels .exit)) (now (places .exit))) r ⌝ }
+{
+    vertices::cells_trusting(keys, from, vertices, levels, places)
 }
 
 #[no_mangle]

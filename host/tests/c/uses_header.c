@@ -43,6 +43,39 @@ static unsigned refused_at(size_t queue_length, uint32_t *refusal)
 #define NODES keys, 73, distances, 73
 #define TREE NODES, leaves, 64
 
+enum { ROOM = 10 };
+
+/* Asks for the vertices with the places of their nodes, ten at a time: those of the list of 27, with the same dual cells. */
+static void read_cells(const uint64_t *list)
+{
+    uint64_t vertices[ROOM], cell_keys[8], from = 0;
+    float cell_distances[8];
+    uint8_t levels[ROOM];
+    size_t places[8 * ROOM + 7], count = ROOM, total = 0, i, corner;
+    uint32_t tried;
+
+    while (count == ROOM) {
+        count = mittenhelm_cells_trusting(keys, 73, from, vertices, ROOM, levels, ROOM, places, 8 * ROOM + 7);
+        expect(count == (total < 20 ? ROOM : 7), "cells_trusting");
+        if (wrong)
+            return;
+        for (i = 0; i < count; i++) {
+            expect(vertices[i] == list[total + i] && levels[i] == 2, "the vertices in turn");
+            expect(mittenhelm_dual_cell(TREE, vertices[i], levels[i], cell_keys, cell_distances, &tried) == MITTENHELM_ACCEPTED,
+                "dual_cell of each");
+            for (corner = 0; corner < 8; corner++) {
+                size_t place = places[8 * i + corner];
+                expect(place < 73 && keys[place] == cell_keys[corner] && distances[place] == cell_distances[corner],
+                    "the places of a dual cell");
+            }
+        }
+        total += count;
+        from = vertices[count - 1] + 1;
+    }
+    expect(total == 27, "all vertices");
+    expect(mittenhelm_cells_trusting(keys, 73, 0, vertices, ROOM, levels, ROOM, places, 7) == 0, "no room for eight places");
+}
+
 /* Reads the tree that the last build left. Its distances are 1 for the root, then 2, 3 and so on, 73 for the last cell. */
 static void read_tree(uint64_t middle)
 {
@@ -102,6 +135,8 @@ static void read_tree(uint64_t middle)
     expect(mittenhelm_dual_cell_trusting(NODES, middle, 2, cell_keys, cell_distances, &tried) == MITTENHELM_ACCEPTED,
         "dual_cell_trusting");
     expect(cell_keys[0] == 120 && cell_keys[7] == 71 && cell_distances[0] == 66.0f && tried == 8, "the same dual cell");
+
+    read_cells(vertices + 3);
 
     expect(mittenhelm_slab(middle, 2, 15, &slab) == MITTENHELM_ACCEPTED && slab == 1 << 14, "slab");
     expect(mittenhelm_slab(middle, 2, 16, &slab) == MITTENHELM_ABOVE_FIFTEEN && slab == 1 << 14, "a slab exponent of 16");

@@ -2,16 +2,17 @@
 //! table must be the model's, the tree's tables as they were, and so what lies around them.
 
 use mittenhelm::raw::{
-    mittenhelm_dual_cell, mittenhelm_dual_cell_trusting, mittenhelm_list, mittenhelm_list_trusting, mittenhelm_look_up,
-    mittenhelm_look_up_trusting, mittenhelm_slab, mittenhelm_sound,
+    mittenhelm_cells_trusting, mittenhelm_dual_cell, mittenhelm_dual_cell_trusting, mittenhelm_list, mittenhelm_list_trusting,
+    mittenhelm_look_up, mittenhelm_look_up_trusting, mittenhelm_slab, mittenhelm_sound,
 };
 use oracle_answers::inputs::Random;
-use oracle_answers::lent::{one_nan, Fenced};
-use oracle_answers::model::reading::{self, DualCell, Lookup, Reading, Tables};
+use oracle_answers::lent::{levels_before, one_nan, places_before, vertices_before, Fenced};
+use oracle_answers::model::reading::{self, DualCell, Lookup, Placed, Reading, Tables};
 use oracle_answers::model::{level, Answer};
 use oracle_answers::questions;
 use std::cell::RefCell;
 use std::fmt::{Debug, Display};
+use std::rc::Rc;
 
 /// What out parameters hold before a call.
 const UNTOUCHED: u64 = 0xdead_beef_0bad_cafe;
@@ -33,6 +34,10 @@ pub struct Seen {
     pub empty_lists: u64,
     /// Dual cells by level.
     pub cells: [u64; 21],
+    /// Vertices that were handed over with places: all from a number on, as many as had room, or none though there was room.
+    pub all_placed: u64,
+    pub some_placed: u64,
+    pub none_placed: u64,
     /// Slabs by exponent.
     pub slabs: [u64; 16],
     /// What was told of trees that aren't sound.
@@ -128,8 +133,8 @@ pub struct Given {
     keys: Fenced<u64>,
     distances: Fenced<u32>,
     leaves: Fenced<u64>,
-    /// What `walked` answers, from its first call on: the model's walk takes its time.
-    walked: RefCell<Option<Vec<(u64, u32)>>>,
+    /// What `placed` answers, from its first call on: the model's walk takes its time.
+    placed: RefCell<Option<Rc<Vec<Placed>>>>,
     pub tables: Tables,
     pub reading: Reading,
 }
@@ -156,7 +161,7 @@ impl Given {
             keys: Fenced::new(&tables.keys),
             distances: Fenced::new(&tables.distances),
             leaves: Fenced::new(&tables.leaves),
-            walked: RefCell::new(None),
+            placed: RefCell::new(None),
             reading: Reading::of(&tables),
             tables,
         }
@@ -169,8 +174,13 @@ impl Given {
 
     /// The vertices that a list finds which trusts the tree: of a sound one they are its vertices.
     pub fn walked(&self) -> Vec<(u64, u32)> {
-        let walk = || self.reading.vertices().unwrap_or_else(|_| self.tables.walked());
-        self.walked.borrow_mut().get_or_insert_with(walk).clone()
+        self.placed().iter().map(|at| (at.vertex, at.level)).collect()
+    }
+
+    /// The same with the places of the nodes round each: of a sound tree they are those of its dual cells.
+    pub fn placed(&self) -> Rc<Vec<Placed>> {
+        let walk = || Rc::new(self.reading.placed().unwrap_or_else(|_| self.tables.placed()));
+        self.placed.borrow_mut().get_or_insert_with(walk).clone()
     }
 
     pub fn sound(&self, seen: &mut Seen) -> bool {
@@ -225,7 +235,7 @@ impl Given {
     }
 
     /// Both lists from a start place on, in a vertex table and a level table of these lengths; the trusting one answers an unsound
-    /// tree too.
+    /// tree too. In such tables vertices are asked for with their places as well.
     pub fn list(&self, start: usize, lengths: [usize; 2], seen: &mut Seen) -> Answer<usize> {
         let (listed, walked) = (self.reading.vertices(), self.walked());
         let call = format!("from {start:#x} on in tables of {} and {}", lengths[0], lengths[1]);
@@ -242,6 +252,7 @@ impl Given {
                 mittenhelm_list_trusting(keys.as_ptr(), keys.len(), start, vertices, v, levels, l, count)
             },
         );
+        self.cells_around(start, lengths, seen);
         if !self.reading.is_sound() {
             seen.trusted.count_list(trusting);
         }
@@ -263,9 +274,7 @@ impl Given {
         call: &str,
         list: impl FnOnce(*mut u64, usize, *mut u8, usize, &mut usize) -> u32,
     ) -> Answer<usize> {
-        // Each place holds something else, and nothing that a list writes.
-        let mut vertices: Vec<u64> = (0..vertices as u64).map(|place| 0x0bad_0000_0000_0000 + place).collect();
-        let mut levels: Vec<u8> = (0..levels).map(|place| 0x80 + (place % 0x70) as u8).collect();
+        let (mut vertices, mut levels) = (vertices_before(vertices), levels_before(levels));
         let (mut our_vertices, mut our_levels) = (Fenced::new(&vertices), Fenced::new(&levels));
         let expected = listed.and_then(|listed| reading::write_list(&listed, start, &mut vertices, &mut levels));
 
@@ -277,6 +286,56 @@ impl Given {
         self.agree(&(number, count), &expected_out, call);
         our_vertices.assert_holds(&vertices, "vertices", &|| self.told(&call));
         our_levels.assert_holds(&levels, "levels", &|| self.told(&call));
+        expected
+    }
+
+    /// Vertices with their places, in a vertex table and a level table of these lengths: from 0 on, from a vertex on and from behind it,
+    /// and from the greatest number on. The table of places has room for as many, for one less, or for part of another.
+    fn cells_around(&self, some: usize, [vertices, levels]: [usize; 2], seen: &mut Seen) {
+        let placed = self.placed();
+        let vertex = placed.get(some % placed.len().max(1)).map_or(0, |at| at.vertex);
+        // More room than this makes no difference, and takes its time.
+        let [vertices, levels] = [vertices, levels].map(|length| length.min(placed.len() + 9));
+        let places = 8 * vertices.min(levels);
+        let lengths = [places, places.saturating_sub(1), places + 7];
+        for (i, from) in [0, vertex, vertex + 1, u64::MAX].into_iter().enumerate() {
+            self.cells(from, [vertices, levels, lengths[some.wrapping_add(i) % 3]], seen);
+        }
+    }
+
+    /// The call for vertices with their places, from a number on, in a vertex table, a level table and a table of places of these lengths.
+    pub fn cells(&self, from: u64, [vertices, levels, places]: [usize; 3], seen: &mut Seen) -> usize {
+        let call = format!("cells_trusting from {from:#x} on in tables of {vertices}, {levels} and {places}");
+        let room = vertices.min(levels).min(places / 8);
+        let (mut vertices, mut levels, mut places) = (vertices_before(vertices), levels_before(levels), places_before(places));
+        let (mut our_vertices, mut our_levels, mut our_places) =
+            (Fenced::new(&vertices), Fenced::new(&levels), Fenced::new(&places));
+        let placed = self.placed();
+        let expected = reading::write_placed(&placed, from, &mut vertices, &mut levels, &mut places);
+
+        let (keys, v, l, p) = (self.keys.part(), our_vertices.lend(), our_levels.lend(), our_places.lend());
+        let count = unsafe {
+            mittenhelm_cells_trusting(
+                keys.as_ptr(),
+                keys.len(),
+                from,
+                v.as_mut_ptr(),
+                v.len(),
+                l.as_mut_ptr(),
+                l.len(),
+                p.as_mut_ptr(),
+                p.len(),
+            )
+        };
+        self.agree(&count, &expected, &call);
+        our_vertices.assert_holds(&vertices, "vertices", &|| self.told(&call));
+        our_levels.assert_holds(&levels, "levels", &|| self.told(&call));
+        our_places.assert_holds(&places, "places", &|| self.told(&call));
+        *match expected {
+            0 if room > 0 => &mut seen.none_placed,
+            _ if expected == placed.iter().filter(|at| at.vertex >= from).count() => &mut seen.all_placed,
+            _ => &mut seen.some_placed,
+        } += 1;
         expected
     }
 

@@ -11,6 +11,7 @@ mod counts;
 mod examples;
 mod lists;
 mod lookups;
+mod places;
 mod slabs;
 mod soundness;
 mod text;

@@ -58,6 +58,7 @@ fn any_tables() {
     println!("any tables, {missed} keys missed and {without} without a distance: {seen:?}");
     assert!(missed > 2000 && without > 2000, "{missed}, {without}");
     seen.trusted.assert_every_answer(1000);
+    assert!([seen.all_placed, seen.some_placed, seen.none_placed].iter().all(|&seen| seen > 1000), "{seen:?}");
 }
 
 /// A tree that is sound but for its levels, which go down to 21, and then for up to three changes; and the tree before them.
@@ -78,6 +79,8 @@ struct Listed {
     other: u64,
     /// Lists of trees with keys above level 15, with vertices.
     too_deep: u64,
+    /// Trees with a vertex that has a place past the end.
+    past_end: u64,
     /// Vertices of each level.
     levels: [u64; 16],
 }
@@ -100,6 +103,8 @@ fn lists_of_unsound_trees() {
         listed.same += (before.as_ref() == Ok(&walked)) as u64;
         listed.other += (before.map_or(false, |before| before != walked) && !walked.is_empty()) as u64;
         listed.too_deep += (given.tables.keys.iter().any(|&key| level(key) > 15) && !walked.is_empty()) as u64;
+        let is_past_end = |&place: &usize| place >= given.tables.keys.len();
+        listed.past_end += given.placed().iter().any(|at| at.places.iter().any(is_past_end)) as u64;
         let (count, start) = (walked.len(), random.below(9) as usize);
         assert_eq!(given.list(start, [start + count, start + count], &mut seen), Err(11));
         if round % 40 == 0 {
@@ -109,11 +114,12 @@ fn lists_of_unsound_trees() {
         }
     }
     println!("unsound trees: {listed:?}, {seen:?}");
-    let Listed { same, other, too_deep, levels } = &listed;
-    assert!([same, other, too_deep].iter().all(|&&seen| seen > 300), "{listed:?}");
+    let Listed { same, other, too_deep, past_end, levels } = &listed;
+    assert!([same, other, too_deep, past_end].iter().all(|&&seen| seen > 300), "{listed:?}");
     assert!(levels[1..].iter().all(|&seen| seen > 100), "{listed:?}");
     let trusted = &seen.trusted;
     assert!(trusted.lists > 3000 && trusted.empty_lists > 200 && trusted.refused[12] > 5000, "{trusted:?}");
+    assert!([seen.all_placed, seen.some_placed, seen.none_placed].iter().all(|&seen| seen > 1000), "{seen:?}");
 }
 
 /// The walk asks for the first of eight children alone. So eight times that one gives the list of the sound tree, and so do other

@@ -71,6 +71,21 @@ impl<T: Place> Fenced<T> {
     }
 }
 
+/// What a table of so many vertices holds before a call: each place something else, and nothing that a call writes.
+pub fn vertices_before(length: usize) -> Vec<u64> {
+    (0..length as u64).map(|place| 0x0bad_0000_0000_0000 + place).collect()
+}
+
+/// The same of levels.
+pub fn levels_before(length: usize) -> Vec<u8> {
+    (0..length).map(|place| 0x80 + (place % 0x70) as u8).collect()
+}
+
+/// The same of places in the node tables.
+pub fn places_before(length: usize) -> Vec<usize> {
+    (0..length).map(|place| usize::MAX - place).collect()
+}
+
 /// No promise settles the bits of a NaN: one stands for all.
 pub fn one_nan(bits: u32) -> u32 {
     if f32::from_bits(bits).is_nan() {

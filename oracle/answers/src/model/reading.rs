@@ -33,6 +33,14 @@ pub struct DualCell {
     pub tried: u32,
 }
 
+/// A vertex with its level, and the places in the node tables of the eight nodes round it, in corner order.
+#[derive(Clone, Copy, Debug, PartialEq, Eq)]
+pub struct Placed {
+    pub vertex: u64,
+    pub level: u32,
+    pub places: [usize; 8],
+}
+
 fn ascends(keys: &[u64]) -> bool {
     keys.windows(2).all(|two| two[0] < two[1])
 }
@@ -117,6 +125,14 @@ impl Reading {
         Ok(self.sound()?.vertices.iter().map(|(&vertex, &level)| (vertex, level)).collect())
     }
 
+    /// Every vertex with the places of the nodes that its dual cell has.
+    pub fn placed(&self) -> Answer<Vec<Placed>> {
+        let keys: Vec<u64> = self.sound()?.nodes.keys().copied().collect();
+        let place_of = |key| keys.binary_search(&key).expect("a key of the tree");
+        let placed = |(vertex, level)| Ok(Placed { vertex, level, places: self.dual_cell(vertex, level)?.keys.map(place_of) });
+        self.vertices()?.into_iter().map(placed).collect()
+    }
+
     /// Writes the list from a start place on. The answer is the number of vertices.
     pub fn list(&self, start: usize, vertices: &mut [u64], levels: &mut [u8]) -> Answer<usize> {
         write_list(&self.vertices()?, start, vertices, levels)
@@ -144,6 +160,18 @@ pub fn write_list(list: &[(u64, u32)], start: usize, vertices: &mut [u64], level
         levels[start + i] = level as u8;
     }
     Ok(list.len())
+}
+
+/// Writes the vertices that are no less than a number, as many as have room, with their levels and places. The answer is how many.
+pub fn write_placed(placed: &[Placed], from: u64, vertices: &mut [u64], levels: &mut [u8], places: &mut [usize]) -> usize {
+    let room = vertices.len().min(levels.len()).min(places.len() / 8);
+    let wanted: Vec<&Placed> = placed.iter().filter(|at| at.vertex >= from).take(room).collect();
+    for (i, at) in wanted.iter().enumerate() {
+        vertices[i] = at.vertex;
+        levels[i] = at.level as u8;
+        places[8 * i..8 * i + 8].copy_from_slice(&at.places);
+    }
+    wanted.len()
 }
 
 /// What is looked up on the eight sides of an inner vertex; where nothing is found the entry is 0 and 0.
@@ -206,8 +234,22 @@ impl Tables {
     /// Every vertex that the walk over the cells finds, with its level. It asks for the keys alone.
     pub fn walked(&self) -> Vec<(u64, u32)> {
         let mut found = Vec::new();
-        Walk { keys: &self.keys }.go_over(0, 1, &mut found);
+        Walk { keys: &self.keys }.go_over(0, 1, &mut |vertex, level, _| found.push((vertex, level)));
         found
+    }
+
+    /// The same with the places of the nodes round each.
+    pub fn placed(&self) -> Vec<Placed> {
+        let mut found = Vec::new();
+        Walk { keys: &self.keys }.go_over(0, 1, &mut |vertex, level, nodes| {
+            found.push(Placed { vertex, level, places: nodes.map(|node| self.place_of(node)) })
+        });
+        found
+    }
+
+    /// The place of a node: that of the first of the eight children to whom it belongs, and its number among them.
+    fn place_of(&self, node: u64) -> usize {
+        halving_ends(&self.keys, 8 * (node / 8)) + (node % 8) as usize
     }
 }
 
@@ -275,14 +317,14 @@ impl Walk<'_> {
 
     /// Goes into the children of a cell with a split entry, down to the limit. Else it ends: the cell's low corner is found if all
     /// entries are nodes and one has the cell's own level.
-    fn go_over(&self, level: u32, cell: u64, found: &mut Vec<(u64, u32)>) {
-        let entries: Vec<u64> = (0..8).map(|corner| self.entry(level, cell, corner)).collect();
+    fn go_over(&self, level: u32, cell: u64, found: &mut dyn FnMut(u64, u32, [u64; 8])) {
+        let entries = [0, 1, 2, 3, 4, 5, 6, 7].map(|corner| self.entry(level, cell, corner));
         if entries.iter().any(|&entry| self.is_split_at(level, entry)) {
             if level < GREATEST_LEVEL {
                 children(cell).for_each(|child| self.go_over(level + 1, child, found));
             }
         } else if entries.iter().all(|&entry| entry > 0) && entries.iter().any(|&entry| is_of_level(level, entry)) {
-            found.push((cell * power_of_8(DEEPEST - level) as u64, level));
+            found(cell * power_of_8(DEEPEST - level) as u64, level, entries);
         }
     }
 }
@@ -372,7 +414,9 @@ mod tests {
         let mut random = Random::new(1);
         for round in 0..600 {
             let tables = grown(GROWTHS[round % 3], round / 10, 15, &mut random);
-            assert_eq!(Ok(tables.walked()), Reading::of(&tables).vertices());
+            let reading = Reading::of(&tables);
+            assert_eq!(Ok(tables.walked()), reading.vertices());
+            assert_eq!(Ok(tables.placed()), reading.placed());
         }
     }
 
