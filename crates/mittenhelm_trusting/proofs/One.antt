@@ -6,8 +6,8 @@ use lib.Ieee.{Float}
 use Rattle.morton.proofs.One.{OnlyOne, handed-on}
 use Rattle.tree.specs.Climb.{trustingOf}
 use Rattle.vertices.specs.Listing.{Lists, TrustingSays as ListTrustingSays}
-use Rattle.vertices.specs.Cells.{Cells, cellsOf, CellsSays}
-use Rattle.vertices.proofs.One.{list-trusting-one as list-answer-one}
+use Rattle.vertices.specs.Cells.{Cells, CellsSays}
+use Rattle.vertices.proofs.One.{list-trusting-one as list-answer-one, cells-trusting-one as cells-answer-one}
 use Rattle.dual.specs.declared.Dual.{Dual}
 use Rattle.dual.specs.Dual.{TrustingSays as DualTrustingSays}
 use Rattle.dual.proofs.One.{dual-cell-trusting-one as dual-answer-one}
@@ -23,8 +23,7 @@ pub list-trusting-one : (ks : List ℕ) (start was : ℕ) (before : Lists)
 list-trusting-one ks start was before = listed-on (λ after a. ListTrustingSays ks start before after a) (list-answer-one ks start before) was
 
 pub cells-trusting-one : (ks : List ℕ) (from : ℕ) (was : Cells) → OnlyOne (λ (r : Cells × ℕ). CellsSays ks from was (r .0) (r .1))
-cells-trusting-one ks from was r s p q =
-    λ i. (cellsOf ((p .vertices-are ∙ sym (q .vertices-are)) i) ((p .levels-are ∙ sym (q .levels-are)) i) ((p .places-are ∙ sym (q .places-are)) i), (p .count ∙ sym (q .count)) i)
+cells-trusting-one ks from was = cells-answer-one ks from was
 
 pub dual-cell-trusting-one : (ks : List ℕ) (ds : List Float) (L v : ℕ) (was : Eight) → OnlyOne (λ (r : ℕ × Eight). HandsTrustedDual ks ds L v was (r .0) (r .1))
 dual-cell-trusting-one ks ds L v was =

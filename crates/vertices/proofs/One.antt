@@ -12,7 +12,7 @@ use Rattle.vertices.specs.declared.ListAnswer.{ListAnswer}
 use Rattle.vertices.specs.declared.ListAnswer.the-variants as list
 use Rattle.vertices.specs.Walk.{spotsOf}
 use Rattle.vertices.specs.Listing.{Lists, written, Room, Wrote, Short, ListSays, TrustingSays}
-use Rattle.vertices.specs.Cells.{Cells, CellsSays}
+use Rattle.vertices.specs.Cells.{Cells, cellsOf, CellsSays}
 use Rattle.vertices.proofs.Law.{trusting-list}
 
 module _ (t : Tree) (start : ℕ) (was : Lists) where
@@ -60,10 +60,6 @@ list-trusting-one ks start was (left, list.Refused k) (right, list.Count n) a b 
 list-trusting-one ks start was (left, list.Refused k) (right, list.Refused j) a b =
     ap₂ (λ (x : Lists) (y : ListAnswer). (x, y)) (a .0 ∙ sym (b .0)) (ap list.Refused (a .2 ∙ sym (b .2)))
 
-pub cells-trusting-one : (ks : List ℕ) (from : ℕ) (was : Cells) → OnlyOne (λ (o : ℕ × Cells). CellsSays ks from was (o .1) (o .0))
-cells-trusting-one ks from was (n, left) (m, right) a b =
-    let c : n ≡ m = a .count ∙ sym (b .count) in
-    let v : left .vertices ≡ right .vertices = a .vertices-are ∙ sym (b .vertices-are) in
-    let l : left .levels ≡ right .levels = a .levels-are ∙ sym (b .levels-are) in
-    let p : left .places ≡ right .places = a .places-are ∙ sym (b .places-are) in
-    λ i. (c i, record { vertices = v i; levels = l i; places = p i })
+pub cells-trusting-one : (ks : List ℕ) (from : ℕ) (was : Cells) → OnlyOne (λ (o : Cells × ℕ). CellsSays ks from was (o .0) (o .1))
+cells-trusting-one ks from was o p a b =
+    λ i. (cellsOf ((a .vertices-are ∙ sym (b .vertices-are)) i) ((a .levels-are ∙ sym (b .levels-are)) i) ((a .places-are ∙ sym (b .places-are)) i), (a .count ∙ sym (b .count)) i)
