@@ -24,37 +24,38 @@ pub fn yes_or_no(yes: bool) -> &'static str {
 
 const YES_OR_NO: &[&str] = &["yes", "no"];
 
-/// A call that never refuses.
-const fn total(name: &'static str, accepts: &'static [&'static str], feed: fn(&mut Case) -> Checked) -> Call {
-    Call { name, accepts, refuses: &[], feed }
-}
+/// The ways of a call that accepts in one way only.
+const ONE_WAY: &[&str] = &[ACCEPTED];
 
-const fn refusing(name: &'static str, refuses: &'static [u32], feed: fn(&mut Case) -> Checked) -> Call {
-    Call { name, accepts: &[ACCEPTED], refuses, feed }
+/// A call by its name, with its ways, its refusals and what feeds it.
+macro_rules! call {
+    ($name:literal, $accepts:expr, $refuses:expr, $feed:path) => {
+        Call { name: $name, accepts: $accepts, refuses: &$refuses, feed: $feed }
+    };
 }
 
 pub const CALLS: &[Call] = &[
-    total("level", &[ACCEPTED], keys::level),
-    total("is_cell", YES_OR_NO, keys::is_cell),
-    total("parent", &[ACCEPTED], keys::parent),
-    total("add", &[ACCEPTED], keys::add),
-    total("sub", &[ACCEPTED], keys::sub),
-    refusing("child", &[1, 2, 3], keys::child),
-    refusing("half_size", &[1], keys::half_size),
-    refusing("centre", &[1], keys::centre),
-    Call { name: "vertex", accepts: &["a vertex", "none"], refuses: &[1, 2, 3], feed: keys::vertex },
-    total("is_inner", YES_OR_NO, keys::is_inner),
-    refusing("side", &[2, 4], keys::side),
-    total("should_refine", YES_OR_NO, keys::should_refine),
-    refusing("start", &[5, 10], builds::start),
-    Call { name: "distance", accepts: &["split", "leaf", "finished"], refuses: &[10, 9, 6, 7, 8], feed: builds::distance },
-    total("sound", YES_OR_NO, reading::sound),
-    Call { name: "look_up", accepts: &["found", "nothing"], refuses: &[11, 1], feed: reading::look_up },
-    Call { name: "list", accepts: &["vertices", "none"], refuses: &[11, 12], feed: reading::list },
-    refusing("dual_cell", &[11, 4], reading::dual_cell),
-    Call { name: "look_up_trusting", accepts: &["found", "nothing"], refuses: &[1], feed: reading::look_up_trusting },
-    Call { name: "list_trusting", accepts: &["vertices", "none"], refuses: &[12], feed: reading::list_trusting },
-    total("cells_trusting", &["vertices", "none"], reading::cells_trusting),
-    refusing("dual_cell_trusting", &[4], reading::dual_cell_trusting),
-    refusing("slab", &[4, 5], keys::slab),
+    call!("level", ONE_WAY, [], keys::level),
+    call!("is_cell", YES_OR_NO, [], keys::is_cell),
+    call!("parent", ONE_WAY, [], keys::parent),
+    call!("add", ONE_WAY, [], keys::add),
+    call!("sub", ONE_WAY, [], keys::sub),
+    call!("child", ONE_WAY, [1, 2, 3], keys::child),
+    call!("half_size", ONE_WAY, [1], keys::half_size),
+    call!("centre", ONE_WAY, [1], keys::centre),
+    call!("vertex", &["a vertex", "none"], [1, 2, 3], keys::vertex),
+    call!("is_inner", YES_OR_NO, [], keys::is_inner),
+    call!("side", ONE_WAY, [2, 4], keys::side),
+    call!("should_refine", YES_OR_NO, [], keys::should_refine),
+    call!("start", ONE_WAY, [5, 10], builds::start),
+    call!("distance", &["split", "leaf", "finished"], [10, 9, 6, 7, 8], builds::distance),
+    call!("sound", YES_OR_NO, [], reading::sound),
+    call!("look_up", &["found", "nothing"], [11, 1], reading::look_up),
+    call!("list", &["vertices", "none"], [11, 12], reading::list),
+    call!("dual_cell", ONE_WAY, [11, 4], reading::dual_cell),
+    call!("look_up_trusting", &["found", "nothing"], [1], reading::look_up_trusting),
+    call!("list_trusting", &["vertices", "none"], [12], reading::list_trusting),
+    call!("cells_trusting", &["vertices", "none"], [], reading::cells_trusting),
+    call!("dual_cell_trusting", ONE_WAY, [4], reading::dual_cell_trusting),
+    call!("slab", ONE_WAY, [4, 5], keys::slab),
 ];
