@@ -147,9 +147,10 @@ uint32_t mittenhelm_slab(uint64_t vertex, uint32_t level, uint32_t exponent, uin
 
 /* Each call above that reads a tree first goes over all of it, to see that it is sound. A host that reads much checks once with
  * mittenhelm_sound, keeps the tables as they are, and then calls these, which are given no leaves and look only at the keys
- * that they search among. Of a sound tree they answer exactly as the calls above. They never refuse 11: of tables that hold no
- * sound tree, of whatever lengths, they answer what the same search by halving comes to, among as many nodes as there are both
- * keys and distances, or among all keys where no distances are given. */
+ * that they search among. Of a sound tree each answers exactly as the call above that it is named for; mittenhelm_cells_trusting,
+ * which has none, goes over the list's vertices. They never refuse 11: of tables that hold no sound tree, of whatever lengths,
+ * they answer what the same search by halving comes to, among as many nodes as there are both keys and distances, or among all
+ * keys where no distances are given. */
 
 /* As mittenhelm_look_up of a tree that was checked before. Refusal 1. */
 uint32_t mittenhelm_look_up_trusting(
