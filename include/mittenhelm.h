@@ -165,7 +165,8 @@ uint32_t mittenhelm_list_trusting(
 /* Writes the vertices that are no less than `from`, ascending and each with its level, as many as have room in all three tables,
  * and answers how many; `places` takes eight for each: where in keys and distances the nodes of its dual cell stand, in corner
  * order (of a tree that isn't sound, perhaps past the end). A host with room for one at least begins with `from` 0, goes on with
- * the last vertex + 1, and is done when fewer came than have room. No refusal. */
+ * the last vertex + 1, and is done when fewer came than have room: that it then has each vertex once, of any keys at all, is proved
+ * (crates/demands/specs/Batches.antt). No refusal. */
 size_t mittenhelm_cells_trusting(
     const uint64_t *keys, size_t keys_length,
     uint64_t from, uint64_t *vertices, size_t vertices_length, uint8_t *levels, size_t levels_length,

@@ -151,7 +151,7 @@ module _ (from : ℕ) where
 -- ---- the tables
 
 module _ (ks : List ℕ) where
-  places-append : (ss ts : List Spot) → placesOf ks (ss ++ ts) ≡ placesOf ks ss ++ placesOf ks ts
+  pub places-append : (ss ts : List Spot) → placesOf ks (ss ++ ts) ≡ placesOf ks ss ++ placesOf ks ts
   unfolding placesOf
   places-append [] ts = refl
   places-append (s ∷ ss) ts =
