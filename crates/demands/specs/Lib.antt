@@ -2,3 +2,4 @@
 pub mod Run
 pub mod Demands
 pub mod Reading
+pub mod Most
