@@ -12,3 +12,4 @@ pub mod Soundness
 pub mod Demands
 pub mod Reading
 pub mod Batches
+pub mod Most

@@ -1,5 +1,6 @@
--- What is demanded, and the words for it. Read Demands first, then Reading and Batches.
+-- What is demanded, and what hosts are told beside it. Run has the words for a build; read Demands first, then Reading.
 pub mod Run
 pub mod Demands
 pub mod Reading
 pub mod Batches
+pub mod Most

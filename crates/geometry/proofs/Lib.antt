@@ -6,3 +6,5 @@ pub mod Lookup
 pub mod Cover
 pub mod Around
 pub mod Listing
+pub mod Few
+pub mod Middles
