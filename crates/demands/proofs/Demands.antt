@@ -1,14 +1,13 @@
 -- The user's demand 3 on building: specs/Demands.antt, proved. Assumes nothing.
-use Prim.Native.Nat.{_-_, _*_}
 use mathlib.Core.Path.{ap}
 use native.Mathlib.Omega.{arith}
 use Rattle.build.specs.Build.{nodeRoom}
 use Rattle.demands.specs.Run.{nodeKeys, leafKeys}
 use Rattle.demands.specs.Demands.{Building, QueueOf64}
+use Rattle.demands.proofs.Growth.{grown-leaves, grown-all}
 use Rattle.demands.proofs.Order.{grown-ordered, rises-ascend}
-use Rattle.demands.proofs.Items.{length-items}
 use Rattle.demands.proofs.Trace.{run-traced}
-use Rattle.demands.proofs.Fits.{covers, count-done, count-busy, fits-traced, never-10}
+use Rattle.demands.proofs.Fits.{covers, count-done, fits-traced, never-10}
 use Rattle.demands.proofs.Queue.{done-after, run-of}
 
 pub building : Building
@@ -23,7 +22,8 @@ building bound lent given s t run =
       distances = h .distances;
       nodes-ascend = rises-ascend 0 (o .from) (nodeKeys s t) (o .nodes-rise);
       leaves-ascend = rises-ascend 0 (o .from) (leafKeys s t) (o .leaves-rise);
-      busy = λ n. omega (arith, count-busy s t h n, length-items (t .queue) (s .nodes) (7 * s .nodes - 8 * s .leaves));
+      leaves = grown-leaves (h .grown);
+      cells = grown-all (h .grown);
       done = count-done s t h;
       ends = omega (arith, h .nodes, h .node-room, ap nodeRoom (h .lengths-same));
     }

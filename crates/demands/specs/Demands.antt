@@ -2,7 +2,7 @@
 use Prim.Native.Nat.{ℕ, _+_, _*_, _≤_}
 use mathlib.Core.Path.{_≡_}
 use mathlib.Core.Bool.{true}
-use mathlib.Core.List.{List, _++_, reverse}
+use mathlib.Core.List.{List, _∷_, _++_, reverse}
 use lib.ListN.{length, take}
 use lib.Ieee.{Float}
 use Rattle.build.specs.declared.State.{State}
@@ -10,7 +10,7 @@ use Rattle.build.specs.declared.Answer.the-variants.{Refused}
 use Rattle.build.specs.Build.{Tables, finest, nodeRoom, lengthsOf, fits, distanceOf}
 use Rattle.geometry.specs.Grid.{Covers}
 use Rattle.tree.specs.Tree.{Ascending}
-use Rattle.demands.specs.Run.{Run, nodeKeys, leafKeys, waiting, openCells}
+use Rattle.demands.specs.Run.{Run, nodeKeys, leafKeys, openCells, wholeOf, childrenOf}
 
 -- What holds after every accepted distance of a build, and at its start.
 pub record AfterEveryDistance (bound : ℕ) (lent : Tables) (given : List Float) (s : State) (t : Tables) : Type 0 where
@@ -24,8 +24,12 @@ pub record AfterEveryDistance (bound : ℕ) (lent : Tables) (given : List Float)
   pub distances : take (s .nodes) (t .distances) ≡ reverse given
   pub nodes-ascend : Ascending (nodeKeys s t)
   pub leaves-ascend : Ascending (leafKeys s t)
-  -- With n nodes and m leaves, 7n - 8m wait while a cell is asked, and 7n + 1 = 8m once the build is finished.
-  pub busy : (s .asked ≡ 0 → ⊥) → length (waiting s t) + 8 * s .leaves ≡ 7 * s .nodes
+  -- The leaves are the nodes that the split rule leaves whole, each with its distance: all of them, in their order, and no others.
+  pub leaves : leafKeys s t ≡ wholeOf bound (nodeKeys s t) (reverse given)
+  -- All cells so far are the root and the eight children of each node that is split, in their order: first the nodes, then the cell asked for, then those
+  -- that wait.
+  pub cells : nodeKeys s t ++ openCells s t ≡ 1 ∷ childrenOf bound (nodeKeys s t) (reverse given)
+  -- With n nodes and m leaves, 7n + 1 = 8m once the build is finished.
   pub done : s .asked ≡ 0 → 7 * s .nodes + 1 ≡ 8 * s .leaves
   -- A build ends: no more distances are accepted than the node room.
   pub ends : length given ≤ nodeRoom (lengthsOf lent)
