@@ -1,13 +1,16 @@
 -- How the cells of a build grow, without states and tables. Assumes nothing.
-use Prim.Native.Nat.{ℕ, zero, suc, _+_, _*_}
+use Prim.Native.Nat.{ℕ, zero, suc, _+_, _*_, _<_}
 use mathlib.Core.Path.{_≡_, refl, sym, _∙_, ap, ap₂}
-use mathlib.Core.Bool.{Bool, true, false, cond, false≢true}
+use mathlib.Core.Bool.{Bool, true, false, cond, not, true≢false, false≢true}
+use mathlib.Core.Logic.{⊎-elim}
 use mathlib.Core.List.{List, [], _∷_, _++_, append-assoc, append-nil, reverse, reverse-cons}
 use native.Mathlib.Omega.{arith}
-use lib.ListN.{length, length-append, length-reverse}
-use lib.Ieee.{Float}
+use lib.ListN.{length, getD, length-append, length-reverse}
+use lib.Ieee.{Float, nan}
 use Rattle.morton.specs.Level.{level}
 use Rattle.morton.specs.Split.{splits}
+use Rattle.tree.specs.Tree.{In, Ascending, Decides}
+use Rattle.tree.proofs.Lists.{in-none, in-head, in-tail, in-cases, ascending-place}
 use Rattle.demands.specs.Run.{childrenFrom, children, wholeOf, childrenOf}
 
 -- Nodes, leaves and open cells after the distances `given`, the last one first; the next cell to be decided is the first open one. It becomes a node: by
@@ -107,6 +110,53 @@ grown-all {bound} (divided {k} {d} {given} {nodes} {leaves} {pending} e g) =
     ∙ ap (λ (xs : List ℕ). xs ++ children k) (grown-all g)
     ∙ ap (λ (b : Bool). 1 ∷ (childrenOf bound nodes (reverse given) ++ cond b (children k) [])) (sym e)
     ∙ ap (λ (xs : List ℕ). 1 ∷ xs) (sym (children-next bound k d given nodes (grown-nodes g)))
+
+-- ---- one of the cells
+
+-- one that is left whole is there, with its distance
+whole-into : (bound : ℕ) (ks : List ℕ) (ds : List Float) → length ks ≡ length ds → (i : ℕ) → i < length ks → splits (level (getD ks i 0)) bound (getD ds i nan) ≡ false
+    → In (getD ks i 0) (wholeOf bound ks ds)
+unfolding wholeOf
+whole-into bound [] ds e i l f = absurd (omega arith)
+whole-into bound (k ∷ ks) [] e i l f = absurd (omega arith)
+whole-into bound (k ∷ ks) (d ∷ ds) e zero l f = rw f (in-head refl)
+whole-into bound (k ∷ ks) (d ∷ ds) e (suc i) l f = go (splits (level k) bound d) (whole-into bound ks ds (omega arith) i (omega arith) f)
+  where
+    go : (b : Bool) → In (getD ks i 0) (wholeOf bound ks ds) → In (getD ks i 0) (cond b (wholeOf bound ks ds) (k ∷ wholeOf bound ks ds))
+    go true m = m
+    go false m = in-tail m
+
+-- and what is there was left whole
+record WholeAt (bound k : ℕ) (ks : List ℕ) (ds : List Float) : Type 0 where
+  place : ℕ
+  inside : place < length ks
+  here : getD ks place 0 ≡ k
+  whole : splits (level (getD ks place 0)) bound (getD ds place nan) ≡ false
+
+whole-from : (bound k : ℕ) (ks : List ℕ) (ds : List Float) → In k (wholeOf bound ks ds) → WholeAt bound k ks ds
+unfolding wholeOf
+whole-from bound k [] ds m = absurd (in-none m)
+whole-from bound k (j ∷ ks) [] m = absurd (in-none m)
+whole-from bound k (j ∷ ks) (d ∷ ds) m = go (splits (level j) bound d) refl m (λ n. whole-from bound k ks ds n)
+  where
+    later : WholeAt bound k ks ds → WholeAt bound k (j ∷ ks) (d ∷ ds)
+    later w = record { place = suc (w .place); inside = omega (arith, w .inside); here = w .here; whole = w .whole }
+
+    go : (b : Bool) → splits (level j) bound d ≡ b → In k (cond b (wholeOf bound ks ds) (j ∷ wholeOf bound ks ds)) → (In k (wholeOf bound ks ds) → WholeAt bound k ks ds)
+        → WholeAt bound k (j ∷ ks) (d ∷ ds)
+    go true e m h = later (h m)
+    go false e m h = ⊎-elim (λ f. record { place = 0; inside = omega arith; here = sym f; whole = e }) (λ n. later (h n)) (in-cases m)
+
+pub whole-exactly : (bound : ℕ) (ks : List ℕ) (ds : List Float) → Ascending ks → length ks ≡ length ds → (i : ℕ) → i < length ks
+    → Decides (not (splits (level (getD ks i 0)) bound (getD ds i nan))) (In (getD ks i 0) (wholeOf bound ks ds))
+whole-exactly bound ks ds up e i l = go (splits (level (getD ks i 0)) bound (getD ds i nan)) refl
+  where
+    go : (b : Bool) → splits (level (getD ks i 0)) bound (getD ds i nan) ≡ b → Decides (not b) (In (getD ks i 0) (wholeOf bound ks ds))
+    go false f = whole-into bound ks ds e i l f
+    go true f = λ m.
+        let w = whole-from bound (getD ks i 0) ks ds m in
+        let same : w .place ≡ i = ascending-place ks up (w .place) i (w .inside) l (w .here) in
+        true≢false (sym f ∙ ap (λ (j : ℕ). splits (level (getD ks j 0)) bound (getD ds j nan)) (sym same) ∙ w .whole)
 
 -- ---- one growth for the same distances
 
