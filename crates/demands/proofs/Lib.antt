@@ -11,3 +11,4 @@ pub mod Queue
 pub mod Soundness
 pub mod Demands
 pub mod Reading
+pub mod Rooms

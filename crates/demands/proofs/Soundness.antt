@@ -40,7 +40,7 @@ child-in k (suc n) w u a b = go (ℕ-discrete u w) (child-in k n (suc w) u)
     go (yes e) h = in-head (omega arith)
     go (no e) h = in-tail (h (omega arith) (omega arith))
 
-in-children : {m : ℕ} (k n w : ℕ) → w + n ≤ 8 → In m (childrenFrom k w n) → m / 8 ≡ k
+pub in-children : {m : ℕ} (k n w : ℕ) → w + n ≤ 8 → In m (childrenFrom k w n) → m / 8 ≡ k
 unfolding childrenFrom
 in-children k zero w h i = absurd (in-none i)
 in-children {m} k (suc n) w h i =

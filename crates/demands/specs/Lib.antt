@@ -1,4 +1,5 @@
--- What is demanded, and the words for it. Read Demands first, then Reading.
+-- What is demanded, and the words for it. Read Demands first, then Reading, then Rooms.
 pub mod Run
 pub mod Demands
 pub mod Reading
+pub mod Rooms
