@@ -79,8 +79,11 @@ bool mittenhelm_should_refine(uint32_t level, uint32_t bound, float distance);
  * keys, the nodes' distances, the leaves' keys and a queue, which is a ring of cells that wait. Between two calls the caller
  * keeps state and tables as the last accepted call left them; a copy of all five can be brought back later, anywhere.
  *
- * Node room is the shorter of the first two lengths, at most 4,096. A queue shorter than 64 places lets no build finish. A
- * finished tree has its n keys and n distances in the first places, and so its m leaves; keys and leaves ascend. */
+ * Node room is the shorter of the first two lengths, at most 4,096. A queue shorter than 64 places lets no build finish.
+ * Room for n nodes, with (7n + 1)/8 places, rounded down, for the leaves and as many for the queue, refuses no build that ends
+ * within n nodes. Both are proved (crates/demands/specs/Rooms.antt).
+ *
+ * A finished tree has its n keys and n distances in the first places, and so its m leaves; keys and leaves ascend. */
 enum mittenhelm_state {
     MITTENHELM_STATE_BOUND = 0,            /* the depth bound of the start */
     MITTENHELM_STATE_NODES = 1,            /* how many nodes there are so far: n */

@@ -6,7 +6,7 @@ use mathlib.Core.List.{List, [], _∷_}
 use native.Mathlib.Omega.{arith}
 use lib.Dec.{eqb, ltb}
 use lib.Ieee.{Float}
-use borrow.Author.Tests.{eqb-true, le-ltb}
+use borrow.Author.Tests.{eqb-true, eqb-false, le-ltb}
 use Rattle.morton.specs.Level.{limit}
 use Rattle.build.specs.declared.Request.{Request}
 use Rattle.build.specs.declared.State.{State}
@@ -68,6 +68,20 @@ answer-took s t t' d a e n =
       state = advance-state s _ _ ∙ ap (λ (o : Outcome). stateIn s (o .answer)) (c .1);
       tables = ap (λ (o : Outcome). o .tables) (c .1);
     }
+
+-- a refused call gives the number of its refusal
+pub refused-number : (s : State) (d : Float) (t : Tables) (k : ℕ) → distanceOf s d t .answer ≡ Refused k → (refusalOf s (splitOf s d) t ≡ k) × (k ≡ 0 → ⊥)
+unfolding distanceOf decideOf acceptOf advanceOf
+refused-number s d t k = go (eqb (refusalOf s (splitOf s d) t) 0) refl (ltb (s .nodes) (items (s .nodes + 1) (leavesOf s (splitOf s d)))) _ _ _ _
+  where
+    go : (b : Bool) → eqb (refusalOf s (splitOf s d) t) 0 ≡ b → (c : Bool) (r : Request) (x y : State) (t' : Tables)
+        → cond b (outcome (cond c (Ask r x) (Finished y)) t') (outcome (Refused (refusalOf s (splitOf s d) t)) t) .answer ≡ Refused k
+        → (refusalOf s (splitOf s d) t ≡ k) × (k ≡ 0 → ⊥)
+    go true f true r x y t' e = absurd (ask-refused r x k e)
+    go true f false r x y t' e = absurd (finished-refused y k e)
+    go false f c r x y t' e =
+        let i : refusalOf s (splitOf s d) t ≡ k = cc in
+        (i, λ z. eqb-false (refusalOf s (splitOf s d) t) 0 f (i ∙ z))
 
 -- ---- a run begins, and goes on while calls aren't refused
 

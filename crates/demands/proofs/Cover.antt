@@ -7,6 +7,7 @@ use native.Mathlib.Nat.{pow-suc, div-div-eq-div-mul}
 use native.Mathlib.Decide.{ℕ-discrete}
 use native.Mathlib.Omega.{arith}
 use lib.Dec.{eqb}
+use lib.Ieee.{Float}
 use borrow.Author.Tests.{eq-eqb, ne-eqb}
 use Rattle.morton.specs.Level.{deepest, level, Cell}
 use Rattle.morton.proofs.Levels.{cell-lead}
@@ -14,7 +15,10 @@ use Rattle.morton.proofs.Cells.{child-cell}
 use Rattle.geometry.specs.Grid.{volume, liesIn, holders, volumes, Cells, Covers}
 use Rattle.geometry.proofs.Shape.{root-cell, root-level, child-level}
 use Rattle.geometry.proofs.Cover.{count, covers-once}
-use Rattle.demands.proofs.Growth.{childrenFrom, children, Grown}
+use Rattle.build.specs.Build.{finest}
+use Rattle.demands.specs.Run.{childrenFrom, children}
+use Rattle.demands.proofs.Rule.{split-level}
+use Rattle.demands.proofs.Growth.{Grown}
 use Rattle.demands.proofs.Growth.Grown.{root, kept, divided}
 
 -- ---- the eight children of a cell
@@ -134,7 +138,9 @@ divide D k xs ys deep above c =
       holders-children D k deep (mine .0 .0) above f,
     ))
 
-pub grown-covers : {D : ℕ} {nodes leaves pending : List ℕ} → D ≤ deepest → Grown D nodes leaves pending → Covers D (leaves ++ pending)
-grown-covers {D} deep root = root-covers D
-grown-covers {D} deep (kept {k} {nodes} {leaves} {pending} _ g) = rw (append-assoc leaves (k ∷ []) pending) (grown-covers deep g)
-grown-covers {D} deep (divided {k} {nodes} {leaves} {pending} h g) = divide D k leaves pending deep h (grown-covers deep g)
+pub grown-covers : {bound : ℕ} {given : List Float} {nodes leaves pending : List ℕ} → finest bound ≤ deepest → Grown bound given nodes leaves pending
+    → Covers (finest bound) (leaves ++ pending)
+grown-covers {bound} deep root = root-covers (finest bound)
+grown-covers deep (kept {k} {d} {given} {nodes} {leaves} {pending} _ g) = rw (append-assoc leaves (k ∷ []) pending) (grown-covers deep g)
+grown-covers {bound} deep (divided {k} {d} {given} {nodes} {leaves} {pending} h g) =
+    divide (finest bound) k leaves pending deep (split-level (level k) bound d h) (grown-covers deep g)

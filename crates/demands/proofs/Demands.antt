@@ -1,29 +1,41 @@
 -- The user's demand 3 on building: specs/Demands.antt, proved. Assumes nothing.
-use Prim.Native.Nat.{_-_, _*_}
-use mathlib.Core.Path.{ap}
+use mathlib.Core.Path.{_≡_, sym, ap, _∙_}
+use mathlib.Core.List.{List, reverse}
 use native.Mathlib.Omega.{arith}
+use lib.ListN.{getD, length-reverse}
+use lib.Seq.{getD-take}
+use lib.Ieee.{Float, nan}
 use Rattle.build.specs.Build.{nodeRoom}
+use Rattle.tree.specs.Tree.{Ascending}
 use Rattle.demands.specs.Run.{nodeKeys, leafKeys}
 use Rattle.demands.specs.Demands.{Building, QueueOf64}
+use Rattle.demands.proofs.Growth.{whole-exactly, grown-leaves, grown-all}
 use Rattle.demands.proofs.Order.{grown-ordered, rises-ascend}
-use Rattle.demands.proofs.Items.{length-items}
 use Rattle.demands.proofs.Trace.{run-traced}
-use Rattle.demands.proofs.Fits.{covers, count-done, count-busy, fits-traced, never-10}
+use Rattle.demands.proofs.Fits.{nodes-count, covers, count-done, fits-traced, never-10}
 use Rattle.demands.proofs.Queue.{done-after, run-of}
 
 pub building : Building
 building bound lent given s t run =
     let h = run-traced run in
     let o = grown-ordered (h .grown) in
+    let up : Ascending (nodeKeys s t) = rises-ascend 0 (o .from) (nodeKeys s t) (o .nodes-rise) in
     record {
       covers = covers s t h;
       fitting = fits-traced s t h;
       never-10 = λ d. never-10 s d t (fits-traced s t h);
       nodes = h .nodes;
       distances = h .distances;
-      nodes-ascend = rises-ascend 0 (o .from) (nodeKeys s t) (o .nodes-rise);
+      nodes-ascend = up;
       leaves-ascend = rises-ascend 0 (o .from) (leafKeys s t) (o .leaves-rise);
-      busy = λ n. omega (arith, count-busy s t h n, length-items (t .queue) (s .nodes) (7 * s .nodes - 8 * s .leaves));
+      leaf = λ i l.
+          let key : getD (nodeKeys s t) i 0 ≡ getD (t .keys) i 0 = getD-take (s .nodes) (t .keys) i 0 l in
+          let distance : getD (reverse given) i nan ≡ getD (t .distances) i nan =
+          ap (λ (ds : List Float). getD ds i nan) (sym (h .distances)) ∙ getD-take (s .nodes) (t .distances) i nan l in
+          rw (← key, ← distance, grown-leaves (h .grown))
+          (whole-exactly bound (nodeKeys s t) (reverse given) up (nodes-count s t h ∙ h .nodes ∙ sym (length-reverse given)) i (omega (arith, nodes-count s t h)));
+      leaves = grown-leaves (h .grown);
+      cells = grown-all (h .grown);
       done = count-done s t h;
       ends = omega (arith, h .nodes, h .node-room, ap nodeRoom (h .lengths-same));
     }

@@ -12,10 +12,9 @@ use lib.Ieee.{Float}
 use borrow.Author.Tests.{eq-eqb, ne-eqb, le-leb, lt-leb}
 use Rattle.morton.specs.Level.{limit, level, Cell}
 use Rattle.build.specs.declared.Lengths.{Lengths}
-use Rattle.build.specs.declared.Request.{Request}
 use Rattle.build.specs.declared.State.{State}
-use Rattle.build.specs.declared.Answer.the-variants.{Ask, Finished, Refused}
-use Rattle.build.specs.Build.{Tables, outcome, lengthsOf, nodeRoom, finest, items, itemAt, cellTo, sameLengths, countsFit, idleFits, busyFits, fitsAt, fits, fullOf, refusalAt, refusalOf, splitOf, leavesOf, advanceOf, acceptOf, decideOf, distanceOf}
+use Rattle.build.specs.declared.Answer.the-variants.{Refused}
+use Rattle.build.specs.Build.{Tables, lengthsOf, nodeRoom, finest, itemAt, cellTo, sameLengths, countsFit, idleFits, busyFits, fitsAt, fits, fullOf, refusalAt, refusalOf, splitOf, distanceOf}
 use Rattle.build.proofs.Laws.{to-cell}
 use Rattle.geometry.specs.Grid.{Cells, Covers}
 use Rattle.demands.specs.Run.{nodeKeys, leafKeys, itemsFrom, waiting, openCells}
@@ -23,7 +22,7 @@ use Rattle.demands.proofs.Growth.{grown-count}
 use Rattle.demands.proofs.Cover.{cells-right, grown-covers}
 use Rattle.demands.proofs.Rule.{finest-deep}
 use Rattle.demands.proofs.Items.{length-items}
-use Rattle.demands.proofs.Call.{ask-refused, finished-refused}
+use Rattle.demands.proofs.Call.{refused-number}
 use Rattle.demands.proofs.Trace.{Traced, open-none, open-asked}
 
 module _ {bound : ℕ} {lent : Tables} {given : List Float} (s : State) (t : Tables) (h : Traced bound lent given s t) where
@@ -130,12 +129,4 @@ unfolding fits refusalOf refusalAt
 refusal-none s split t e n r f = rw (e, ne-eqb (s .asked) 0 n, ne-eqb (s .nodes) (nodeRoom (lengthsOf t)) r) f
 
 pub never-10 : (s : State) (d : Float) (t : Tables) → fits s t ≡ true → distanceOf s d t .answer ≡ Refused 10 → ⊥
-unfolding distanceOf decideOf acceptOf advanceOf
-never-10 s d t e =
-    go (eqb (refusalOf s (splitOf s d) t) 0) (ltb (s .nodes) (items (s .nodes + 1) (leavesOf s (splitOf s d)))) _ _ _ _ _ (refusal-below s (splitOf s d) t e)
-  where
-    go : (b c : Bool) (r : Request) (x y : State) (k : ℕ) (t' : Tables) → k ≤ 9
-        → cond b (outcome (cond c (Ask r x) (Finished y)) t') (outcome (Refused k) t) .answer ≡ Refused 10 → ⊥
-    go true true r x y k t' l e = ask-refused r x 10 e
-    go true false r x y k t' l e = finished-refused y 10 e
-    go false c r x y k t' l e = let z : k ≡ 10 = cc in omega arith
+never-10 s d t e r = omega (arith, refusal-below s (splitOf s d) t e, refused-number s d t 10 r)

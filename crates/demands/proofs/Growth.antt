@@ -1,27 +1,30 @@
 -- How the cells of a build grow, without states and tables. Assumes nothing.
-use Prim.Native.Nat.{ℕ, zero, suc, _+_, _*_, _≤_, _<_}
-use mathlib.Core.Path.{_≡_, refl}
-use mathlib.Core.List.{List, [], _∷_, _++_}
+use Prim.Native.Nat.{ℕ, zero, suc, _+_, _*_, _<_}
+use mathlib.Core.Path.{_≡_, refl, sym, _∙_, ap, ap₂}
+use mathlib.Core.Bool.{Bool, true, false, cond, not, true≢false, false≢true}
+use mathlib.Core.Logic.{⊎-elim}
+use mathlib.Core.List.{List, [], _∷_, _++_, append-assoc, append-nil, reverse, reverse-cons}
 use native.Mathlib.Omega.{arith}
-use lib.ListN.{length, length-append}
+use lib.ListN.{length, getD, length-append, length-reverse}
+use lib.Ieee.{Float, nan}
 use Rattle.morton.specs.Level.{level}
+use Rattle.morton.specs.Split.{splits}
+use Rattle.tree.specs.Tree.{In, Ascending, Decides}
+use Rattle.tree.proofs.Lists.{in-none, in-head, in-tail, in-cases, ascending-place}
+use Rattle.demands.specs.Run.{childrenFrom, children, wholeOf, childrenOf}
 
--- n children of a cell from child w on, and all eight
-unfoldable pub childrenFrom : ℕ → ℕ → ℕ → List ℕ
-childrenFrom k w zero = []
-childrenFrom k w (suc n) = (8 * k + w) ∷ childrenFrom k (suc w) n
+-- Nodes, leaves and open cells after the distances `given`, the last one first; the next cell to be decided is the first open one. It becomes a node: by
+-- the split rule it is left whole and is a leaf too, or it gives its eight children to the end of the open cells.
+pub data Grown (bound : ℕ) : List Float → List ℕ → List ℕ → List ℕ → Type 0 where
+  root : Grown bound [] [] [] (1 ∷ [])
+  kept : {k : ℕ} {d : Float} {given : List Float} {nodes leaves pending : List ℕ}
+      → splits (level k) bound d ≡ false → Grown bound given nodes leaves (k ∷ pending)
+      → Grown bound (d ∷ given) (nodes ++ (k ∷ [])) (leaves ++ (k ∷ [])) pending
+  divided : {k : ℕ} {d : Float} {given : List Float} {nodes leaves pending : List ℕ}
+      → splits (level k) bound d ≡ true → Grown bound given nodes leaves (k ∷ pending)
+      → Grown bound (d ∷ given) (nodes ++ (k ∷ [])) leaves (pending ++ children k)
 
-abbrev pub children : ℕ → List ℕ
-children k = childrenFrom k 0 8
-
--- Nodes, leaves and open cells, the next one to be decided first. The first open cell becomes a node: it is left whole and is a leaf too, or it gives
--- its eight children to the end of the open cells. D is the level of the finest grid.
-pub data Grown (D : ℕ) : List ℕ → List ℕ → List ℕ → Type 0 where
-  root : Grown D [] [] (1 ∷ [])
-  kept : {k : ℕ} {nodes leaves pending : List ℕ}
-      → 2 ≤ level k → Grown D nodes leaves (k ∷ pending) → Grown D (nodes ++ (k ∷ [])) (leaves ++ (k ∷ [])) pending
-  divided : {k : ℕ} {nodes leaves pending : List ℕ}
-      → level k < D → Grown D nodes leaves (k ∷ pending) → Grown D (nodes ++ (k ∷ [])) leaves (pending ++ children k)
+-- ---- counts
 
 pub length-children : (k w n : ℕ) → length (childrenFrom k w n) ≡ n
 unfolding childrenFrom
@@ -29,7 +32,151 @@ length-children k w zero = refl
 length-children k w (suc n) = omega (arith, length-children k (suc w) n)
 
 -- all but the root are children, eight of each node that is no leaf
-pub grown-count : {D : ℕ} {nodes leaves pending : List ℕ} → Grown D nodes leaves pending → length pending + 8 * length leaves ≡ 7 * length nodes + 1
+pub grown-count : {bound : ℕ} {given : List Float} {nodes leaves pending : List ℕ} → Grown bound given nodes leaves pending
+    → length pending + 8 * length leaves ≡ 7 * length nodes + 1
 grown-count root = refl
-grown-count (kept {k} {nodes} {leaves} _ g) = omega (arith, grown-count g, length-append nodes (k ∷ []), length-append leaves (k ∷ []))
-grown-count (divided {k} {nodes} {leaves} {pending} _ g) = omega (arith, grown-count g, length-append nodes (k ∷ []), length-append pending (children k), length-children k 0 8)
+grown-count (kept {k} {d} {given} {nodes} {leaves} _ g) = omega (arith, grown-count g, length-append nodes (k ∷ []), length-append leaves (k ∷ []))
+grown-count (divided {k} {d} {given} {nodes} {leaves} {pending} _ g) =
+    omega (arith, grown-count g, length-append nodes (k ∷ []), length-append pending (children k), length-children k 0 8)
+
+pub grown-nodes : {bound : ℕ} {given : List Float} {nodes leaves pending : List ℕ} → Grown bound given nodes leaves pending → length nodes ≡ length given
+grown-nodes root = refl
+grown-nodes (kept {k} {d} {given} {nodes} _ g) = omega (arith, grown-nodes g, length-append nodes (k ∷ []))
+grown-nodes (divided {k} {d} {given} {nodes} _ g) = omega (arith, grown-nodes g, length-append nodes (k ∷ []))
+
+-- ---- the leaves and all cells, by the rule
+
+-- one more cell and its distance
+module _ (bound k : ℕ) (d : Float) where
+  whole-more : (ks : List ℕ) (ds : List Float) → length ks ≡ length ds
+      → wholeOf bound (ks ++ (k ∷ [])) (ds ++ (d ∷ [])) ≡ wholeOf bound ks ds ++ cond (splits (level k) bound d) [] (k ∷ [])
+  unfolding wholeOf
+  whole-more [] [] e = refl
+  whole-more [] (x ∷ ds) e = absurd (omega arith)
+  whole-more (j ∷ ks) [] e = absurd (omega arith)
+  whole-more (j ∷ ks) (x ∷ ds) e = go (splits (level j) bound x) _ _ _ (whole-more ks ds (omega arith))
+    where
+      go : (b : Bool) (xs ys zs : List ℕ) → xs ≡ ys ++ zs → cond b xs (j ∷ xs) ≡ cond b ys (j ∷ ys) ++ zs
+      go true xs ys zs h = h
+      go false xs ys zs h = ap (λ (xs : List ℕ). j ∷ xs) h
+
+  children-more : (ks : List ℕ) (ds : List Float) → length ks ≡ length ds
+      → childrenOf bound (ks ++ (k ∷ [])) (ds ++ (d ∷ [])) ≡ childrenOf bound ks ds ++ cond (splits (level k) bound d) (children k) []
+  unfolding childrenOf
+  children-more [] [] e = ap (λ (xs : List ℕ). cond (splits (level k) bound d) xs []) (append-nil (children k))
+  children-more [] (x ∷ ds) e = absurd (omega arith)
+  children-more (j ∷ ks) [] e = absurd (omega arith)
+  children-more (j ∷ ks) (x ∷ ds) e = go (splits (level j) bound x) _ _ _ (children-more ks ds (omega arith))
+    where
+      go : (b : Bool) (xs ys zs : List ℕ) → xs ≡ ys ++ zs → cond b (children j ++ xs) xs ≡ cond b (children j ++ ys) ys ++ zs
+      go true xs ys zs h = ap (λ (xs : List ℕ). children j ++ xs) h ∙ sym (append-assoc (children j) ys zs)
+      go false xs ys zs h = h
+
+-- the same where the distances are listed the last one first
+module _ (bound k : ℕ) (d : Float) (given : List Float) (nodes : List ℕ) (e : length nodes ≡ length given) where
+  lengths-same : length nodes ≡ length (reverse given)
+  lengths-same = e ∙ sym (length-reverse given)
+
+  whole-next : wholeOf bound (nodes ++ (k ∷ [])) (reverse (d ∷ given)) ≡ wholeOf bound nodes (reverse given) ++ cond (splits (level k) bound d) [] (k ∷ [])
+  whole-next = ap (wholeOf bound (nodes ++ (k ∷ []))) (reverse-cons d given) ∙ whole-more bound k d nodes (reverse given) lengths-same
+
+  children-next : childrenOf bound (nodes ++ (k ∷ [])) (reverse (d ∷ given)) ≡ childrenOf bound nodes (reverse given) ++ cond (splits (level k) bound d) (children k) []
+  children-next = ap (childrenOf bound (nodes ++ (k ∷ []))) (reverse-cons d given) ∙ children-more bound k d nodes (reverse given) lengths-same
+
+pub grown-leaves : {bound : ℕ} {given : List Float} {nodes leaves pending : List ℕ} → Grown bound given nodes leaves pending
+    → leaves ≡ wholeOf bound nodes (reverse given)
+unfolding wholeOf
+grown-leaves root = refl
+grown-leaves {bound} (kept {k} {d} {given} {nodes} {leaves} e g) =
+    ap₂ (λ (xs : List ℕ) (b : Bool). xs ++ cond b [] (k ∷ [])) (grown-leaves g) (sym e) ∙ sym (whole-next bound k d given nodes (grown-nodes g))
+grown-leaves {bound} (divided {k} {d} {given} {nodes} {leaves} e g) =
+    sym (append-nil leaves)
+    ∙ ap₂ (λ (xs : List ℕ) (b : Bool). xs ++ cond b [] (k ∷ [])) (grown-leaves g) (sym e)
+    ∙ sym (whole-next bound k d given nodes (grown-nodes g))
+
+pub grown-all : {bound : ℕ} {given : List Float} {nodes leaves pending : List ℕ} → Grown bound given nodes leaves pending
+    → nodes ++ pending ≡ 1 ∷ childrenOf bound nodes (reverse given)
+unfolding childrenOf
+grown-all root = refl
+grown-all {bound} (kept {k} {d} {given} {nodes} {leaves} {pending} e g) =
+    append-assoc nodes (k ∷ []) pending
+    ∙ grown-all g
+    ∙ ap (λ (xs : List ℕ). 1 ∷ xs) (sym (append-nil (childrenOf bound nodes (reverse given))))
+    ∙ ap (λ (b : Bool). 1 ∷ (childrenOf bound nodes (reverse given) ++ cond b (children k) [])) (sym e)
+    ∙ ap (λ (xs : List ℕ). 1 ∷ xs) (sym (children-next bound k d given nodes (grown-nodes g)))
+grown-all {bound} (divided {k} {d} {given} {nodes} {leaves} {pending} e g) =
+    let turned : (nodes ++ (k ∷ [])) ++ (pending ++ children k) ≡ (nodes ++ (k ∷ pending)) ++ children k = simp append-assoc in
+    turned
+    ∙ ap (λ (xs : List ℕ). xs ++ children k) (grown-all g)
+    ∙ ap (λ (b : Bool). 1 ∷ (childrenOf bound nodes (reverse given) ++ cond b (children k) [])) (sym e)
+    ∙ ap (λ (xs : List ℕ). 1 ∷ xs) (sym (children-next bound k d given nodes (grown-nodes g)))
+
+-- ---- one of the cells
+
+-- one that is left whole is there, with its distance
+whole-into : (bound : ℕ) (ks : List ℕ) (ds : List Float) → length ks ≡ length ds → (i : ℕ) → i < length ks → splits (level (getD ks i 0)) bound (getD ds i nan) ≡ false
+    → In (getD ks i 0) (wholeOf bound ks ds)
+unfolding wholeOf
+whole-into bound [] ds e i l f = absurd (omega arith)
+whole-into bound (k ∷ ks) [] e i l f = absurd (omega arith)
+whole-into bound (k ∷ ks) (d ∷ ds) e zero l f = rw f (in-head refl)
+whole-into bound (k ∷ ks) (d ∷ ds) e (suc i) l f = go (splits (level k) bound d) (whole-into bound ks ds (omega arith) i (omega arith) f)
+  where
+    go : (b : Bool) → In (getD ks i 0) (wholeOf bound ks ds) → In (getD ks i 0) (cond b (wholeOf bound ks ds) (k ∷ wholeOf bound ks ds))
+    go true m = m
+    go false m = in-tail m
+
+-- and what is there was left whole
+record WholeAt (bound k : ℕ) (ks : List ℕ) (ds : List Float) : Type 0 where
+  place : ℕ
+  inside : place < length ks
+  here : getD ks place 0 ≡ k
+  whole : splits (level (getD ks place 0)) bound (getD ds place nan) ≡ false
+
+whole-from : (bound k : ℕ) (ks : List ℕ) (ds : List Float) → In k (wholeOf bound ks ds) → WholeAt bound k ks ds
+unfolding wholeOf
+whole-from bound k [] ds m = absurd (in-none m)
+whole-from bound k (j ∷ ks) [] m = absurd (in-none m)
+whole-from bound k (j ∷ ks) (d ∷ ds) m = go (splits (level j) bound d) refl m (λ n. whole-from bound k ks ds n)
+  where
+    later : WholeAt bound k ks ds → WholeAt bound k (j ∷ ks) (d ∷ ds)
+    later w = record { place = suc (w .place); inside = omega (arith, w .inside); here = w .here; whole = w .whole }
+
+    go : (b : Bool) → splits (level j) bound d ≡ b → In k (cond b (wholeOf bound ks ds) (j ∷ wholeOf bound ks ds)) → (In k (wholeOf bound ks ds) → WholeAt bound k ks ds)
+        → WholeAt bound k (j ∷ ks) (d ∷ ds)
+    go true e m h = later (h m)
+    go false e m h = ⊎-elim (λ f. record { place = 0; inside = omega arith; here = sym f; whole = e }) (λ n. later (h n)) (in-cases m)
+
+pub whole-exactly : (bound : ℕ) (ks : List ℕ) (ds : List Float) → Ascending ks → length ks ≡ length ds → (i : ℕ) → i < length ks
+    → Decides (not (splits (level (getD ks i 0)) bound (getD ds i nan))) (In (getD ks i 0) (wholeOf bound ks ds))
+whole-exactly bound ks ds up e i l = go (splits (level (getD ks i 0)) bound (getD ds i nan)) refl
+  where
+    go : (b : Bool) → splits (level (getD ks i 0)) bound (getD ds i nan) ≡ b → Decides (not b) (In (getD ks i 0) (wholeOf bound ks ds))
+    go false f = whole-into bound ks ds e i l f
+    go true f = λ m.
+        let w = whole-from bound (getD ks i 0) ks ds m in
+        let same : w .place ≡ i = ascending-place ks up (w .place) i (w .inside) l (w .here) in
+        true≢false (sym f ∙ ap (λ (j : ℕ). splits (level (getD ks j 0)) bound (getD ds j nan)) (sym same) ∙ w .whole)
+
+-- ---- one growth for the same distances
+
+pub grown-one : {bound : ℕ} {given : List Float} {nodes leaves pending nodes' leaves' pending' : List ℕ}
+    → Grown bound given nodes leaves pending → Grown bound given nodes' leaves' pending' → (nodes ≡ nodes') × (leaves ≡ leaves') × (pending ≡ pending')
+grown-one root root = (refl, refl, refl)
+grown-one (kept {k = j} _ g) (kept {k = k} _ g') =
+    let (n, m, p) = grown-one g g' in
+    let e : j ≡ k = cc in
+    (ap₂ (λ (xs : List ℕ) (i : ℕ). xs ++ (i ∷ [])) n e, ap₂ (λ (xs : List ℕ) (i : ℕ). xs ++ (i ∷ [])) m e, cc)
+grown-one {bound} (kept {k = j} {d = d} y g) (divided {k = k} z g') =
+    let (n, m, p) = grown-one g g' in
+    let e : j ≡ k = cc in
+    absurd (false≢true (sym y ∙ ap (λ (i : ℕ). splits (level i) bound d) e ∙ z))
+grown-one {bound} (divided {k = j} {d = d} y g) (kept {k = k} z g') =
+    let (n, m, p) = grown-one g g' in
+    let e : j ≡ k = cc in
+    absurd (false≢true (sym z ∙ ap (λ (i : ℕ). splits (level i) bound d) (sym e) ∙ y))
+grown-one (divided {k = j} {pending = ps} _ g) (divided {k = k} {pending = qs} _ g') =
+    let (n, m, p) = grown-one g g' in
+    let e : j ≡ k = cc in
+    let r : ps ≡ qs = cc in
+    (ap₂ (λ (xs : List ℕ) (i : ℕ). xs ++ (i ∷ [])) n e, m, ap₂ (λ (xs : List ℕ) (i : ℕ). xs ++ children i) r e)

@@ -7,8 +7,7 @@ use native.Mathlib.Omega.{arith}
 use lib.ListN.{length}
 use Rattle.build.specs.Build.{itemAt, childrenTo}
 use Rattle.build.proofs.Ring.{apart, length-children, children-other, children-at}
-use Rattle.demands.specs.Run.{itemsFrom}
-use Rattle.demands.proofs.Growth.{childrenFrom, children}
+use Rattle.demands.specs.Run.{itemsFrom, childrenFrom, children}
 
 pub length-items : (q : List ℕ) (j k : ℕ) → length (itemsFrom q j k) ≡ k
 unfolding itemsFrom

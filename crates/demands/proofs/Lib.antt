@@ -1,8 +1,8 @@
 -- The user's demands, proved: read Demands first. The others stand in the order in which they build on each other.
+pub mod Rule
 pub mod Growth
 pub mod Cover
 pub mod Order
-pub mod Rule
 pub mod Items
 pub mod Call
 pub mod Trace
@@ -13,3 +13,4 @@ pub mod Demands
 pub mod Reading
 pub mod Batches
 pub mod Most
+pub mod Rooms

@@ -8,6 +8,7 @@ use mathlib.Core.List.{List, [], _∷_, _++_}
 use native.Mathlib.Decide.{decLe}
 use native.Mathlib.Omega.{arith}
 use lib.Dec.{leb}
+use lib.Ieee.{Float}
 use lib.ListN.{length, length-append}
 use borrow.Author.Tests.{le-leb, lt-leb}
 use Rattle.morton.specs.Level.{deepest, limit, level}
@@ -24,6 +25,7 @@ use Rattle.geometry.proofs.Middles.{coarse, length-coarse, in-coarse, middles, 
 use Rattle.vertices.specs.Listing.{Lists, Room, Short}
 use Rattle.demands.specs.Reading.{treeAfter}
 use Rattle.demands.specs.Most.{most, MostVertices, MostOfSoundTrees, MostOfFinishedBuilds}
+use Rattle.demands.proofs.Rule.{whole-level}
 use Rattle.demands.proofs.Growth.{Grown}
 use Rattle.demands.proofs.Growth.Grown.{root, kept, divided}
 use Rattle.demands.proofs.Trace.{run-traced}
@@ -177,9 +179,10 @@ most-of-sound-trees t sound low =
     }
 
 -- no build leaves the root or a child of it whole
-grown-low : {D : ℕ} {nodes leaves pending : List ℕ} → Grown D nodes leaves pending → (k : ℕ) → In k leaves → 2 ≤ level k
+grown-low : {bound : ℕ} {given : List Float} {nodes leaves pending : List ℕ} → Grown bound given nodes leaves pending → (k : ℕ) → In k leaves → 2 ≤ level k
 grown-low root k m = absurd (in-none m)
-grown-low (kept {leaves} l g) k m = ⊎-elim (λ i. grown-low g k i) (λ i. omega (arith, ap level (in-one i))) (in-append leaves (_ ∷ []) m)
+grown-low {bound} (kept {k = j} {d} {leaves} e g) k m =
+    ⊎-elim (λ i. grown-low g k i) (λ i. omega (arith, ap level (in-one i), whole-level (level j) bound d e)) (in-append leaves (j ∷ []) m)
 grown-low (divided _ g) k m = grown-low g k m
 
 pub most-of-finished-builds : MostOfFinishedBuilds

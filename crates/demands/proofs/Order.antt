@@ -4,9 +4,11 @@ use mathlib.Core.Path.{_≡_}
 use mathlib.Core.Logic.{_⊎_, inl, inr}
 use mathlib.Core.List.{List, [], _∷_, _++_}
 use native.Mathlib.Omega.{arith}
+use lib.Ieee.{Float}
 use Rattle.tree.specs.Tree.{In, Ascending}
 use Rattle.tree.proofs.Lists.{in-at, in-none, in-cases}
-use Rattle.demands.proofs.Growth.{childrenFrom, children, Grown}
+use Rattle.demands.specs.Run.{childrenFrom, children}
+use Rattle.demands.proofs.Growth.{Grown}
 use Rattle.demands.proofs.Growth.Grown.{root, kept, divided}
 
 -- The list ascends strictly, from a on and below b.
@@ -62,7 +64,7 @@ pub record Ordered (nodes leaves pending : List ℕ) : Type 0 where
   pub leaves-rise : Rises 0 from leaves
   pub pending-rise : Rises from (8 * from) pending
 
-pub grown-ordered : {D : ℕ} {nodes leaves pending : List ℕ} → Grown D nodes leaves pending → Ordered nodes leaves pending
+pub grown-ordered : {bound : ℕ} {given : List Float} {nodes leaves pending : List ℕ} → Grown bound given nodes leaves pending → Ordered nodes leaves pending
 unfolding Rises
 grown-ordered root =
     record {
@@ -71,7 +73,7 @@ grown-ordered root =
       leaves-rise = omega arith;
       pending-rise = (omega arith, omega arith);
     }
-grown-ordered (kept {k} {nodes} {leaves} {pending} _ g) =
+grown-ordered (kept {k} {d} {given} {nodes} {leaves} {pending} _ g) =
     let o = grown-ordered g in
     let l : o .from ≤ k = o .pending-rise .0 in
     record {
@@ -80,7 +82,7 @@ grown-ordered (kept {k} {nodes} {leaves} {pending} _ g) =
       leaves-rise = rises-last 0 (o .from) k leaves l (o .leaves-rise);
       pending-rise = rises-widen (suc k) (suc k) (8 * o .from) (8 * suc k) pending (omega arith) (omega arith) (o .pending-rise .1);
     }
-grown-ordered (divided {k} {nodes} {leaves} {pending} _ g) =
+grown-ordered (divided {k} {d} {given} {nodes} {leaves} {pending} _ g) =
     let o = grown-ordered g in
     let l : o .from ≤ k = o .pending-rise .0 in
     record {

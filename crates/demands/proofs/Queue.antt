@@ -2,7 +2,7 @@
 use Prim.Native.Nat.{ℕ, _+_, _-_, _*_, _≤_, _<_}
 use mathlib.Core.Path.{_≡_, refl, sym, _∙_, ap, subst}
 use mathlib.Core.Bool.{Bool, true, false}
-use mathlib.Core.List.{List, [], _∷_}
+use mathlib.Core.List.{List, [], _∷_, _++_}
 use native.Mathlib.Omega.{arith}
 use native.Mathlib.Decide.{ℕ-discrete}
 use lib.ListN.{length, length-append}
@@ -12,16 +12,16 @@ use Rattle.morton.specs.Level.{level}
 use Rattle.morton.proofs.Levels.{eight-pos, eight-mono}
 use Rattle.build.specs.declared.State.{State}
 use Rattle.build.specs.Build.{Tables, lengthsOf, nodeRoom, fullOf, refusalOf, splitOf}
-use Rattle.geometry.specs.Grid.{volume, volumes}
+use Rattle.geometry.specs.Grid.{volume, volumes, Covers}
 use Rattle.demands.specs.Run.{Run, leafKeys, waiting, openCells}
 use Rattle.demands.proofs.Growth.{Grown}
 use Rattle.demands.proofs.Growth.Grown.{root, kept, divided}
-use Rattle.demands.proofs.Cover.{volumes-append, grown-covers}
-use Rattle.demands.proofs.Rule.{split-level, finest-least}
+use Rattle.demands.proofs.Cover.{volumes-append}
+use Rattle.demands.proofs.Rule.{split-level, whole-level, finest-least}
 use Rattle.demands.proofs.Items.{length-items}
 use Rattle.demands.proofs.Call.{run-start, run-on}
-use Rattle.demands.proofs.Trace.{GrownIn, Traced, run-traced, open-none, open-asked}
-use Rattle.demands.proofs.Fits.{leaves-count, open-count, count-done, fits-traced, refusal-none}
+use Rattle.demands.proofs.Trace.{Traced, run-traced, open-none, open-asked}
+use Rattle.demands.proofs.Fits.{covers, leaves-count, open-count, count-done, fits-traced, refusal-none}
 
 -- ---- volumes where the finest level is 2
 
@@ -30,9 +30,10 @@ volume-whole : (k : ℕ) → 2 ≤ level k → volume 2 k ≡ 1
 unfolding volume
 volume-whole k h = let e : 2 - level k ≡ 0 = omega arith in rw e refl
 
-volumes-leaves : {nodes leaves pending : List ℕ} → Grown 2 nodes leaves pending → volumes 2 leaves ≡ length leaves
+volumes-leaves : {bound : ℕ} {given : List Float} {nodes leaves pending : List ℕ} → Grown bound given nodes leaves pending → volumes 2 leaves ≡ length leaves
 volumes-leaves root = refl
-volumes-leaves (kept {k} {nodes} {leaves} h g) = omega (arith, volumes-leaves g, volume-whole k h, volumes-append 2 leaves (k ∷ []), length-append leaves (k ∷ []))
+volumes-leaves {bound} (kept {k} {d} {given} {nodes} {leaves} h g) =
+    omega (arith, volumes-leaves g, volume-whole k (whole-level (level k) bound d h), volumes-append 2 leaves (k ∷ []), length-append leaves (k ∷ []))
 volumes-leaves (divided h g) = volumes-leaves g
 
 volumes-least : (D : ℕ) (ks : List ℕ) → length ks ≤ volumes D ks
@@ -50,8 +51,8 @@ volume-split k h = eight-mono {i = 1} {j = 2 - level k} (omega arith)
 module _ {bound : ℕ} {lent : Tables} {given : List Float} (s : State) (t : Tables) (low : bound ≤ 2) (h : Traced bound lent given s t) where
   volumes-total : s .leaves + volumes 2 (openCells s t) ≡ 64
   volumes-total =
-      let g : GrownIn 2 s t = subst (λ (D : ℕ). GrownIn D s t) (finest-least bound low) (h .grown) in
-      omega (arith, leaves-count s t h, volumes-leaves g, volumes-append 2 (leafKeys s t) (openCells s t), grown-covers {D = 2} (omega arith) g .full)
+      let c : Covers 2 (leafKeys s t ++ openCells s t) = subst (λ (D : ℕ). Covers D (leafKeys s t ++ openCells s t)) (finest-least bound low) (covers s t h) in
+      omega (arith, leaves-count s t h, volumes-leaves (h .grown), volumes-append 2 (leafKeys s t) (openCells s t), c .full)
 
   busy-before : length given < 73 → s .asked ≡ 0 → ⊥
   busy-before l e = omega (arith, h .nodes, volumes-total, count-done s t h e, ap (volumes 2) (open-none s t e))

@@ -25,16 +25,21 @@ use Rattle.geometry.proofs.Shape.{Shape, root-level, sound-shape-to}
 use Rattle.geometry.proofs.Lookup.{root-leaf, found-leaf}
 use Rattle.geometry.proofs.Cover.{shape-covers}
 use Rattle.geometry.proofs.Around.{Entry, entry}
-use Rattle.geometry.proofs.Listing.{giver, listed-strict, listed-corner, listed-deepest}
+use Rattle.geometry.proofs.Listing.{giver, listed-unique, listed-strict, listed-corner, listed-deepest}
 use Rattle.build.specs.Build.{finest}
-use Rattle.vertices.specs.Listing.{Lists, written, Wrote}
+use Rattle.vertices.specs.declared.ListAnswer.{ListAnswer}
+use Rattle.vertices.specs.declared.ListAnswer.the-variants as list
+use Rattle.vertices.specs.declared.ListAnswer.the-variants.{Count}
+use Rattle.vertices.specs.Walk.{spotsOf, verticesOf, levelsOf}
+use Rattle.vertices.specs.Listing.{Lists, written, Room, Wrote, ListSays}
+use Rattle.vertices.proofs.Law.{spots-listed}
 use Rattle.dual.specs.declared.Dual.{Dual}
 use Rattle.dual.specs.declared.Tried.{Tried}
 use Rattle.dual.specs.declared.Tried.the-variants as tried
 use Rattle.dual.specs.declared.Tried.the-variants.{Keys}
 use Rattle.dual.specs.Dual.{DualSays, sum, DualCell, keyIn, distanceIn, climbAt, Around}
 use Rattle.dual.proofs.Filling.{around-dual}
-use Rattle.demands.specs.Reading.{Once, LeafCorner, ListsCorners, HoldsAlone, LeafCell, part, Reading, OfSoundTrees, treeAfter, OfFinishedBuilds}
+use Rattle.demands.specs.Reading.{Once, LeafCorner, ListsCorners, Answered, HoldsAlone, LeafCell, part, Reading, OfSoundTrees, treeAfter, OfFinishedBuilds}
 use Rattle.demands.proofs.Soundness.{finished-sound, leaves-within, finest-within}
 
 -- ---- the list
@@ -186,6 +191,32 @@ module _ (t : Tree) (sound : Sound t) (D : ℕ) (deep : D ≤ deepest) (leaf : (
   leaves-cover : Covers D (t .leaves)
   leaves-cover = shape-covers D (t .keys) (t .leaves) deep s
 
+  -- the list that the walk finds; any other list of these leaves is the same
+  list-answered : Answered t
+  list-answered =
+      let vs = verticesOf (spotsOf (t .keys)) in
+      let ls = levelsOf (spotsOf (t .keys)) in
+      let mine : Listed (t .leaves) vs ls = spots-listed t sound in
+      let same : (xs ys : List ℕ) → Listed (t .leaves) xs ys → length xs ≡ length vs = λ xs ys l. ap length (listed-unique (t .leaves) xs ys vs ls l mine .0) in
+      record {
+        vertices = vs;
+        levels = ls;
+        corners = lists-corners (t .leaves) vs ls shallow mine;
+        room = λ start was left a says room. has-room start was left room same a says;
+        no-room = λ start was left a says none. has-none start was left none same a says;
+      }
+    where
+      has-room : {n : ℕ} (start : ℕ) (was left : Lists) → Room start n was → ((xs ys : List ℕ) → Listed (t .leaves) xs ys → length xs ≡ n)
+          → (a : ListAnswer) → ListSays t start was left a → a ≡ Count n
+      has-room start was left r same (Count m) (_, w) = ap Count (w .count ∙ same (w .vs) (w .ls) (w .listed))
+      has-room start was left r same (list.Refused k) (_, why) =
+          absurd (⊎-elim (λ x. x .0 sound) (λ x. x .1 .no-room (subst (λ (m : ℕ). Room start m was) (sym (same (x .1 .vs) (x .1 .ls) (x .1 .listed))) r)) why)
+
+      has-none : {n : ℕ} (start : ℕ) (was left : Lists) → (Room start n was → ⊥) → ((xs ys : List ℕ) → Listed (t .leaves) xs ys → length xs ≡ n)
+          → (a : ListAnswer) → ListSays t start was left a → a ≡ list.Refused 12
+      has-none start was left r same (Count m) (_, w) = absurd (r (subst (λ (m : ℕ). Room start m was) (w .count ∙ same (w .vs) (w .ls) (w .listed)) (w .room)))
+      has-none start was left r same (list.Refused k) (_, why) = ⊎-elim (λ x. absurd (x .0 sound)) (λ x. ap list.Refused (x .2)) why
+
   dual-read : (vs ls : List ℕ) → Listed (t .leaves) vs ls → (j : ℕ) → j < length vs
       → (keys : List ℕ) (distances : List Float) (tried : ℕ) → DualCell t (getD ls j 0) (getD vs j 0) keys distances tried
       → (i : ℕ) → i < 8 → HoldsAlone D t (sideOf D (getD vs j 0) i) (getD keys i 0) (getD distances i nan)
@@ -241,10 +272,10 @@ module _ (t : Tree) (sound : Sound t) (D : ℕ) (deep : D ≤ deepest) (leaf : (
   reading =
       record {
         covers = leaves-cover;
+        answered = list-answered;
         list = λ start n was left (_, w).
             subst₂ (ListsCorners (t .leaves)) (sym (vertices-part t start n was left w)) (sym (levels-part t start n was left w))
             (lists-corners (t .leaves) (w .vs) (w .ls) shallow (w .listed));
-        room = λ start k was left (_, why). ⊎-elim (λ x. absurd (x .0 sound)) (λ x. x .2) why;
         dual = λ start n was left (_, w) j h r d.
             let l : j < length (w .vs) = omega (arith, w .count) in
             let v : getD (left .vertices) (start + j) 0 ≡ getD (w .vs) j 0 = vertices-at t start n was left w j h in

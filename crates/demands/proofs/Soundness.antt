@@ -14,9 +14,9 @@ use Rattle.build.specs.Build.{Tables, finest}
 use Rattle.geometry.specs.Grid.{Cells}
 use Rattle.tree.proofs.Lists.{in-cast, in-head, in-tail, in-none, in-cases, in-one, in-left, in-right, in-append}
 use Rattle.tree.specs.Tree.{StandsAt, In, AllChildren, NoChild, Sound}
-use Rattle.demands.specs.Run.{Run, nodeKeys, leafKeys}
+use Rattle.demands.specs.Run.{Run, nodeKeys, leafKeys, childrenFrom, children}
 use Rattle.demands.specs.Reading.{treeAfter}
-use Rattle.demands.proofs.Growth.{childrenFrom, children, Grown}
+use Rattle.demands.proofs.Growth.{Grown}
 use Rattle.demands.proofs.Growth.Grown.{root, kept, divided}
 use Rattle.demands.proofs.Cover.{cells-append, cells-right, grown-covers}
 use Rattle.demands.proofs.Order.{Rises, rises-in, rises-ascend, grown-ordered}
@@ -40,7 +40,7 @@ child-in k (suc n) w u a b = go (ℕ-discrete u w) (child-in k n (suc w) u)
     go (yes e) h = in-head (omega arith)
     go (no e) h = in-tail (h (omega arith) (omega arith))
 
-in-children : {m : ℕ} (k n w : ℕ) → w + n ≤ 8 → In m (childrenFrom k w n) → m / 8 ≡ k
+pub in-children : {m : ℕ} (k n w : ℕ) → w + n ≤ 8 → In m (childrenFrom k w n) → m / 8 ≡ k
 unfolding childrenFrom
 in-children k zero w h i = absurd (in-none i)
 in-children {m} k (suc n) w h i =
@@ -112,7 +112,7 @@ akin-root =
     }
 
 -- the first open cell
-module _ {D k : ℕ} {nodes leaves pending : List ℕ} (g : Grown D nodes leaves (k ∷ pending)) where
+module _ {bound k : ℕ} {given : List Float} {nodes leaves pending : List ℕ} (g : Grown bound given nodes leaves (k ∷ pending)) where
   next-newest : (m : ℕ) → In m nodes → m < k
   unfolding Rises
   next-newest m i =
@@ -127,18 +127,19 @@ module _ {D k : ℕ} {nodes leaves pending : List ℕ} (g : Grown D nodes leaves
       let l : o .from ≤ k = o .pending-rise .0 in
       ⊎-elim (λ j. omega (arith, next-newest m j)) (λ j. omega (arith, rises-in (o .from) (8 * o .from) (k ∷ pending) (o .pending-rise) j)) (in-append nodes (k ∷ pending) i)
 
-  next-cells : D ≤ deepest → Cells D nodes → Cells D (nodes ++ (k ∷ []))
-  next-cells deep c = cells-append D nodes (k ∷ []) c (cells-right D leaves (k ∷ pending) (grown-covers deep g .cells) .0, tt)
+  next-cells : finest bound ≤ deepest → Cells (finest bound) nodes → Cells (finest bound) (nodes ++ (k ∷ []))
+  next-cells deep c = cells-append (finest bound) nodes (k ∷ []) c (cells-right (finest bound) leaves (k ∷ pending) (grown-covers deep g .cells) .0, tt)
 
-grown-akin : {D : ℕ} {nodes leaves pending : List ℕ} → Grown D nodes leaves pending → Akin (nodes ++ pending) nodes leaves
+grown-akin : {bound : ℕ} {given : List Float} {nodes leaves pending : List ℕ} → Grown bound given nodes leaves pending → Akin (nodes ++ pending) nodes leaves
 grown-akin root = akin-root
-grown-akin (kept {k} {nodes} {leaves} {pending} _ g) =
+grown-akin (kept {k} {d} {given} {nodes} {leaves} {pending} _ g) =
     rw (append-assoc nodes (k ∷ []) pending) (akin-kept k (nodes ++ (k ∷ pending)) nodes leaves (grown-akin g) (next-newest g) (next-below g))
-grown-akin (divided {k} {nodes} {leaves} {pending} _ g) =
+grown-akin (divided {k} {d} {given} {nodes} {leaves} {pending} _ g) =
     let e : (nodes ++ (k ∷ [])) ++ (pending ++ children k) ≡ (nodes ++ (k ∷ pending)) ++ children k = simp append-assoc in
     rw e (akin-divided k (nodes ++ (k ∷ pending)) nodes leaves (grown-akin g) (next-newest g) (next-below g))
 
-grown-cells : {D : ℕ} {nodes leaves pending : List ℕ} → D ≤ deepest → Grown D nodes leaves pending → Cells D nodes
+grown-cells : {bound : ℕ} {given : List Float} {nodes leaves pending : List ℕ} → finest bound ≤ deepest → Grown bound given nodes leaves pending
+    → Cells (finest bound) nodes
 grown-cells deep root = tt
 grown-cells deep (kept _ g) = next-cells g deep (grown-cells deep g)
 grown-cells deep (divided _ g) = next-cells g deep (grown-cells deep g)
@@ -147,8 +148,8 @@ grown-cells deep (divided _ g) = next-cells g deep (grown-cells deep g)
 
 -- no cell is open
 module _ {bound : ℕ} {lent : Tables} {given : List Float} (s : State) (t : Tables) (h : Traced bound lent given s t) (done : s .asked ≡ 0) where
-  tree-grown : Grown (finest bound) (nodeKeys s t) (leafKeys s t) []
-  tree-grown = subst (Grown (finest bound) (nodeKeys s t) (leafKeys s t)) (open-none s t done) (h .grown)
+  tree-grown : Grown bound given (nodeKeys s t) (leafKeys s t) []
+  tree-grown = subst (Grown bound given (nodeKeys s t) (leafKeys s t)) (open-none s t done) (h .grown)
 
   tree-akin : Akin (nodeKeys s t) (nodeKeys s t) (leafKeys s t)
   tree-akin = subst (λ (all : List ℕ). Akin all (nodeKeys s t) (leafKeys s t)) (append-nil (nodeKeys s t)) (grown-akin tree-grown)

@@ -1,6 +1,6 @@
 -- What a run keeps, from its start on. Assumes nothing.
 use Prim.Native.Nat.{ℕ, suc, _+_, _-_, _*_, _≤_, _<_}
-use mathlib.Core.Path.{_≡_, refl, sym, _∙_, ap, subst}
+use mathlib.Core.Path.{_≡_, refl, sym, _∙_, ap}
 use mathlib.Core.Bool.{Bool, true, false, cond}
 use mathlib.Core.List.{List, [], _∷_, _++_, reverse, reverse-cons}
 use native.Mathlib.Omega.{arith}
@@ -12,6 +12,7 @@ use lib.Seq.{take-suc-set}
 use lib.Ieee.{Float}
 use borrow.Author.Tests.{eq-eqb, ne-eqb, lt-ltb, le-ltb, ltb-false}
 use Rattle.morton.specs.Level.{deepest, limit, level, Cell}
+use Rattle.morton.specs.Split.{splits}
 use Rattle.morton.proofs.Levels.{eight-pos}
 use Rattle.build.specs.declared.Request.{Request}
 use Rattle.build.specs.declared.State.{State}
@@ -25,13 +26,13 @@ use Rattle.demands.specs.Run.Run.{started, asked, finished}
 use Rattle.demands.proofs.Growth.{Grown}
 use Rattle.demands.proofs.Growth.Grown.{root, kept, divided}
 use Rattle.demands.proofs.Cover.{cells-right, grown-covers}
-use Rattle.demands.proofs.Rule.{split-level, whole-level, finest-deep}
+use Rattle.demands.proofs.Rule.{finest-deep}
 use Rattle.demands.proofs.Items.{items-stored}
 use Rattle.demands.proofs.Call.{nextOf, stateAfter, Took, answer-took, ask-refused, finished-refused}
 
 -- The cells at hand have grown from the root.
-abbrev pub GrownIn : ℕ → State → Tables → Type 0
-GrownIn D s t = Grown D (nodeKeys s t) (leafKeys s t) (openCells s t)
+abbrev pub GrownIn : ℕ → List Float → State → Tables → Type 0
+GrownIn bound given s t = Grown bound given (nodeKeys s t) (leafKeys s t) (openCells s t)
 
 -- State and tables after the distances `given`.
 pub record Traced (bound : ℕ) (lent : Tables) (given : List Float) (s : State) (t : Tables) : Type 0 where
@@ -48,7 +49,7 @@ pub record Traced (bound : ℕ) (lent : Tables) (given : List Float) (s : State)
   pub leaf-room : s .leaves ≤ s .lengths .leaves
   pub queue-room : 7 * s .nodes - 8 * s .leaves ≤ s .lengths .queue
   -- the cells
-  pub grown : GrownIn (finest bound) s t
+  pub grown : GrownIn bound given s t
 
 -- ---- the open cells
 
@@ -90,40 +91,40 @@ unfolding lengthsOf storedOf queueOf
 lengths-stored s true d t = simp (length-set, length-children)
 lengths-stored s false d t = simp length-set
 
-module _ (D : ℕ) (deep : D ≤ deepest) (s : State) (d : Float) (t : Tables) (g : GrownIn D s t) where
+module _ (bound : ℕ) (deep : finest bound ≤ deepest) (given : List Float) (s : State) (d : Float) (t : Tables) (g : GrownIn bound given s t) where
   -- the asked cell first
-  grown-asked : (s .asked ≡ 0 → ⊥) → Grown D (nodeKeys s t) (leafKeys s t) (s .asked ∷ waiting s t)
+  grown-asked : (s .asked ≡ 0 → ⊥) → Grown bound given (nodeKeys s t) (leafKeys s t) (s .asked ∷ waiting s t)
   grown-asked n = rw (open-asked s t n) at g
 
   -- the asked cell goes to the nodes, item n is taken
   grown-stored : (split : Bool) (leaves : List ℕ) → refusalOf s split t ≡ 0 → leavesOf s split ≤ s .nodes + 1 → take (leavesOf s split) (storedOf s split d t .leaves) ≡ leaves
-      → Grown D (nodeKeys s t ++ (s .asked ∷ [])) leaves (itemsFrom (queueOf s split t) (s .nodes) (items (s .nodes + 1) (leavesOf s split) - s .nodes))
-      → GrownIn D (stateAfter s split t) (storedOf s split d t)
+      → Grown bound (d ∷ given) (nodeKeys s t ++ (s .asked ∷ [])) leaves (itemsFrom (queueOf s split t) (s .nodes) (items (s .nodes + 1) (leavesOf s split) - s .nodes))
+      → GrownIn bound (d ∷ given) (stateAfter s split t) (storedOf s split d t)
   unfolding storedOf movedOf
   grown-stored split leaves z few e n =
       rw (
         take-set (t .keys) (s .nodes) (s .asked) (ready s split t z .key-room),
         e,
-        open-moved D (leavesOf s split) s (storedOf s split d t) few (cells-right D leaves _ (grown-covers deep n .cells)),
+        open-moved (finest bound) (leavesOf s split) s (storedOf s split d t) few (cells-right (finest bound) leaves _ (grown-covers deep n .cells)),
       ) n
 
-  grown-step : (split : Bool) → refusalOf s split t ≡ 0 → (split ≡ true → level (s .asked) < D) → (split ≡ false → 2 ≤ level (s .asked))
-      → GrownIn D (stateAfter s split t) (storedOf s split d t)
+  grown-step : (split : Bool) → refusalOf s split t ≡ 0 → splits (level (s .asked)) bound d ≡ split
+      → GrownIn bound (d ∷ given) (stateAfter s split t) (storedOf s split d t)
   unfolding refusalOf leavesOf storedOf queueOf lengthsOf
-  grown-step true z above below =
+  grown-step true z rule =
       let p = passed _ _ _ _ _ _ z in
       let k = 7 * s .nodes - 8 * s .leaves in
       let room : k + 8 ≤ length (t .queue) = omega (arith, full-ring s (p .full), p .state .lengths .queue) in
       let at : items (s .nodes) (s .leaves) ≡ s .nodes + k = omega (arith, p .state .waiting) in
       let more : items (s .nodes + 1) (s .leaves) - s .nodes ≡ k + 8 = omega (arith, p .state .waiting) in
       grown-stored true (leafKeys s t) z (omega (arith, p .state .waiting)) refl
-      (rw (at, more, items-stored (t .queue) (s .asked) (s .nodes) k room) (divided (above refl) (grown-asked (p .asks))))
-  grown-step false z above below =
+      (rw (at, more, items-stored (t .queue) (s .asked) (s .nodes) k room) (divided rule (grown-asked (p .asks))))
+  grown-step false z rule =
       let p = passed _ _ _ _ _ _ z in
       let same : items (s .nodes + 1) (s .leaves + 1) - s .nodes ≡ 7 * s .nodes - 8 * s .leaves = omega (arith, p .state .waiting) in
       grown-stored false (leafKeys s t ++ (s .asked ∷ [])) z (omega (arith, p .state .waiting))
       (take-set (t .leaves) (s .leaves) (s .asked) (ready s false t z .leaf-room refl))
-      (rw same (kept (below refl) (grown-asked (p .asks))))
+      (rw same (kept rule (grown-asked (p .asks))))
 
 module _ {bound : ℕ} {lent : Tables} {given : List Float} (s : State) (t : Tables) (d : Float) (h : Traced bound lent given s t) where
   leaf-room-after : (split : Bool) → fullOf s split ≡ 0 → leavesOf s split ≤ s .lengths .leaves
@@ -154,9 +155,8 @@ module _ {bound : ℕ} {lent : Tables} {given : List Float} (s : State) (t : Tab
         leaf-room = leaf-room-after (splitOf s d) (p .full);
         queue-room = queue-room-after (splitOf s d) (p .full) (p .state .waiting);
         grown =
-            grown-step (finest bound) (finest-deep bound (h .bounded)) s d t (h .grown) (splitOf s d) z
-            (λ e. subst (λ (b : ℕ). level (s .asked) < finest b) (h .bound-same) (split-level (level (s .asked)) (s .bound) d e))
-            (λ e. whole-level (level (s .asked)) (s .bound) d e);
+            grown-step bound (finest-deep bound (h .bounded)) given s d t (h .grown) (splitOf s d) z
+            (ap (λ (b : ℕ). splits (level (s .asked)) b d) (sym (h .bound-same)));
       }
 
   step-traced : {s' : State} {t' : Tables} → Took s (splitOf s d) d t s' t' → Traced bound lent (d ∷ given) s' t'

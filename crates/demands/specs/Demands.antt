@@ -1,16 +1,18 @@
--- Demand 3 of the user, the half that speaks of building. proofs/Demands.antt proves each of these.
-use Prim.Native.Nat.{ℕ, _+_, _*_, _≤_}
+-- Demand 3 of the user, the half that speaks of building, with demand 2's split rule. proofs/Demands.antt proves each of these.
+use Prim.Native.Nat.{ℕ, _+_, _*_, _≤_, _<_}
 use mathlib.Core.Path.{_≡_}
-use mathlib.Core.Bool.{true}
-use mathlib.Core.List.{List, _++_, reverse}
-use lib.ListN.{length, take}
-use lib.Ieee.{Float}
+use mathlib.Core.Bool.{true, not}
+use mathlib.Core.List.{List, _∷_, _++_, reverse}
+use lib.ListN.{length, getD, take}
+use lib.Ieee.{Float, nan}
+use Rattle.morton.specs.Level.{level}
+use Rattle.morton.specs.Split.{splits}
 use Rattle.build.specs.declared.State.{State}
 use Rattle.build.specs.declared.Answer.the-variants.{Refused}
 use Rattle.build.specs.Build.{Tables, finest, nodeRoom, lengthsOf, fits, distanceOf}
 use Rattle.geometry.specs.Grid.{Covers}
-use Rattle.tree.specs.Tree.{Ascending}
-use Rattle.demands.specs.Run.{Run, nodeKeys, leafKeys, waiting, openCells}
+use Rattle.tree.specs.Tree.{In, Ascending, Decides}
+use Rattle.demands.specs.Run.{Run, nodeKeys, leafKeys, openCells, wholeOf, childrenOf}
 
 -- What holds after every accepted distance of a build, and at its start.
 pub record AfterEveryDistance (bound : ℕ) (lent : Tables) (given : List Float) (s : State) (t : Tables) : Type 0 where
@@ -24,8 +26,14 @@ pub record AfterEveryDistance (bound : ℕ) (lent : Tables) (given : List Float)
   pub distances : take (s .nodes) (t .distances) ≡ reverse given
   pub nodes-ascend : Ascending (nodeKeys s t)
   pub leaves-ascend : Ascending (leafKeys s t)
-  -- With n nodes and m leaves, 7n - 8m wait while a cell is asked, and 7n + 1 = 8m once the build is finished.
-  pub busy : (s .asked ≡ 0 → ⊥) → length (waiting s t) + 8 * s .leaves ≡ 7 * s .nodes
+  -- The node at a place is a leaf exactly if document 01's rule doesn't split it for the distance there; there are no other leaves.
+  pub leaf : (i : ℕ) → i < s .nodes
+      → Decides (not (splits (level (getD (t .keys) i 0)) bound (getD (t .distances) i nan))) (In (getD (t .keys) i 0) (leafKeys s t))
+  pub leaves : leafKeys s t ≡ wholeOf bound (nodeKeys s t) (reverse given)
+  -- All cells so far are the root and the eight children of each node that is split, in their order: first the nodes, then the cell asked for, then those
+  -- that wait.
+  pub cells : nodeKeys s t ++ openCells s t ≡ 1 ∷ childrenOf bound (nodeKeys s t) (reverse given)
+  -- With n nodes and m leaves, 7n + 1 = 8m once the build is finished.
   pub done : s .asked ≡ 0 → 7 * s .nodes + 1 ≡ 8 * s .leaves
   -- A build ends: no more distances are accepted than the node room.
   pub ends : length given ≤ nodeRoom (lengthsOf lent)

@@ -2,5 +2,6 @@
 pub mod Run
 pub mod Demands
 pub mod Reading
-pub mod Batches
+pub mod Rooms
 pub mod Most
+pub mod Batches

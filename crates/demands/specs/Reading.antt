@@ -13,8 +13,9 @@ use Rattle.build.specs.Build.{Tables, finest}
 use Rattle.tree.specs.Tree.{Tree, StandsAt, In, Ascending, Sound}
 use Rattle.geometry.specs.Grid.{liesIn, Covers}
 use Rattle.geometry.specs.Corner.{Corner, StrictlyInside}
+use Rattle.vertices.specs.declared.ListAnswer.{ListAnswer}
 use Rattle.vertices.specs.declared.ListAnswer.the-variants.{Count, Refused}
-use Rattle.vertices.specs.Listing.{Lists, ListSays}
+use Rattle.vertices.specs.Listing.{Lists, Room, ListSays}
 use Rattle.dual.specs.declared.Dual.{Dual}
 use Rattle.dual.specs.declared.Tried.the-variants as tried
 use Rattle.dual.specs.Dual.{DualCell, DualSays}
@@ -46,6 +47,14 @@ pub record ListsCorners (leaves vertices levels : List ℕ) : Type 0 where
   -- The list ascends.
   pub ascends : Ascending vertices
 
+-- The tree's list, which doesn't hang on any table: it is answered by its length exactly where it has room from the start place on, else refused by 12.
+pub record Answered (t : Tree) : Type 0 where
+  pub vertices : List ℕ
+  pub levels : List ℕ
+  pub corners : ListsCorners (t .leaves) vertices levels
+  pub room : (start : ℕ) (was left : Lists) (a : ListAnswer) → ListSays t start was left a → Room start (length vertices) was → a ≡ Count (length vertices)
+  pub no-room : (start : ℕ) (was left : Lists) (a : ListAnswer) → ListSays t start was left a → (Room start (length vertices) was → ⊥) → a ≡ Refused 12
+
 -- k is the one leaf that holds the cell f of the finest grid, and d its distance.
 pub record HoldsAlone (D : ℕ) (t : Tree) (f k : ℕ) (d : Float) : Type 0 where
   pub leaf : In k (t .leaves)
@@ -68,11 +77,11 @@ part start n table = take n (drop start table)
 pub record Reading (D : ℕ) (t : Tree) : Type 0 where
   -- Each cell of the finest grid lies in exactly one leaf, and the leaves' volumes add up to the cube.
   pub covers : Covers D (t .leaves)
-  -- Where the list has room, every leaf corner strictly inside the cube is listed once, at the deepest level of the leaves that have that corner;
-  -- nothing else is listed. It is refused for want of room only.
+  -- The list is refused for want of room only. Where it has room, every leaf corner strictly inside the cube is listed once, at the deepest level of the
+  -- leaves that have that corner; nothing else is listed.
+  pub answered : Answered t
   pub list : (start n : ℕ) (was left : Lists) → ListSays t start was left (Count n)
       → ListsCorners (t .leaves) (part start n (left .vertices)) (part start n (left .levels))
-  pub room : (start k : ℕ) (was left : Lists) → ListSays t start was left (Refused k) → k ≡ 12
   -- Entry i of the dual cell of each listed vertex is the one leaf that holds the finest cell on side i, with that leaf's distance.
   pub dual : (start n : ℕ) (was left : Lists) → ListSays t start was left (Count n)
       → (j : ℕ) → j < n → (r : Dual)

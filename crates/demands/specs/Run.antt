@@ -2,10 +2,12 @@
 use Prim.Native.Nat.{ℕ, zero, suc, _+_, _-_, _*_}
 use mathlib.Core.Path.{_≡_}
 use mathlib.Core.Bool.{cond}
-use mathlib.Core.List.{List, [], _∷_}
+use mathlib.Core.List.{List, [], _∷_, _++_}
 use lib.Dec.{eqb}
 use lib.ListN.{take}
 use lib.Ieee.{Float}
+use Rattle.morton.specs.Level.{level}
+use Rattle.morton.specs.Split.{splits}
 use Rattle.build.specs.declared.Request.{Request}
 use Rattle.build.specs.declared.State.{State}
 use Rattle.build.specs.declared.Answer.the-variants.{Ask, Finished}
@@ -39,3 +41,23 @@ waiting s t = itemsFrom (t .queue) (s .nodes) (7 * s .nodes - 8 * s .leaves)
 -- The cell asked for and those that wait; none once the build is finished.
 unfoldable pub openCells : State → Tables → List ℕ
 openCells s t = cond (eqb (s .asked) 0) [] (s .asked ∷ waiting s t)
+
+-- n children of a cell from child w on, and all eight.
+unfoldable pub childrenFrom : ℕ → ℕ → ℕ → List ℕ
+childrenFrom k w zero = []
+childrenFrom k w (suc n) = (8 * k + w) ∷ childrenFrom k (suc w) n
+
+abbrev pub children : ℕ → List ℕ
+children k = childrenFrom k 0 8
+
+-- Of cells with a distance each, those that document 01's rule leaves whole, in their order.
+unfoldable pub wholeOf : ℕ → List ℕ → List Float → List ℕ
+wholeOf bound [] ds = []
+wholeOf bound (k ∷ ks) [] = []
+wholeOf bound (k ∷ ks) (d ∷ ds) = cond (splits (level k) bound d) (wholeOf bound ks ds) (k ∷ wholeOf bound ks ds)
+
+-- And the eight children of each that it splits.
+unfoldable pub childrenOf : ℕ → List ℕ → List Float → List ℕ
+childrenOf bound [] ds = []
+childrenOf bound (k ∷ ks) [] = []
+childrenOf bound (k ∷ ks) (d ∷ ds) = cond (splits (level k) bound d) (children k ++ childrenOf bound ks ds) (childrenOf bound ks ds)
