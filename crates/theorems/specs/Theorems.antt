@@ -1,28 +1,31 @@
 -- What README and the header tell of builds and trees as proved, beside the one answer of each call: sentence by sentence, by name and with its statement.
-use Prim.Native.Nat.{ℕ, _+_, _*_, _^_, _≤_, _<_}
+use Prim.Native.Nat.{ℕ, _+_, _*_, _-_, _^_, _≤_, _<_}
 use mathlib.Core.Path.{_≡_}
-use mathlib.Core.Bool.{true}
-use mathlib.Core.List.{List, _++_}
+use mathlib.Core.Bool.{true, not}
+use mathlib.Core.List.{List, _∷_, _++_, reverse}
 use lib.Ieee.{Float, nan}
-use lib.ListN.{length, getD}
+use lib.ListN.{length, getD, take}
 use Rattle.morton.specs.Exact.{Exactly}
 use Rattle.morton.specs.Field.{coord}
 use Rattle.morton.specs.Level.{deepest, level, Cell}
+use Rattle.morton.specs.Split.{splits}
 use Rattle.morton.specs.Vertex.{sideOf}
 use Rattle.tree.specs.declared.Lookup.{Lookup}
-use Rattle.tree.specs.Tree.{Tree, StandsAt, In, Ascending, Sound}
+use Rattle.tree.specs.Tree.{Tree, StandsAt, In, Ascending, Sound, Decides}
 use Rattle.tree.specs.Climb.{LookupSays, triedIn, trustingOf}
 use Rattle.tree.proofs.Climbing as climbing
 use Rattle.tree.proofs.One as tree
 use Rattle.geometry.specs.Grid.{liesIn, holders, volumes}
+use Rattle.geometry.specs.Listing.{Listed}
 use Rattle.build.specs.declared.State.{State}
 use Rattle.build.specs.declared.Answer.the-variants.{Refused}
 use Rattle.build.specs.Build.{Tables, finest, nodeRoom, lengthsOf, centreOf, halfOf, distanceOf}
 use Rattle.build.proofs.Asking as asking
 use Rattle.vertices.specs.declared.ListAnswer.{ListAnswer}
-use Rattle.vertices.specs.declared.ListAnswer.the-variants.{Count}
-use Rattle.vertices.specs.Listing.{Lists, ListSays, TrustingSays as ListTrustingSays}
-use Rattle.vertices.specs.Cells.{Cells, CellsSays}
+use Rattle.vertices.specs.declared.ListAnswer.the-variants as list
+use Rattle.vertices.specs.Listing.{Lists, Room, ListSays, TrustingSays as ListTrustingSays}
+use Rattle.vertices.specs.Walk.{spotsOf, verticesOf, levelsOf}
+use Rattle.vertices.specs.Cells.{placesOf, Cells, cellsOf, CellsSays}
 use Rattle.vertices.proofs.One as vertices
 use Rattle.vertices.proofs.Rounds.{EntryAt}
 use Rattle.vertices.proofs.Rounds as rounds
@@ -30,17 +33,23 @@ use Rattle.dual.specs.declared.Dual.{Dual}
 use Rattle.dual.specs.declared.Tried.the-variants as tried
 use Rattle.dual.specs.Dual.{DualSays, TrustingSays as DualTrustingSays}
 use Rattle.dual.proofs.One as dual
-use Rattle.demands.specs.Run.{Run, nodeKeys, leafKeys, openCells}
+use Rattle.demands.specs.Run.{Run, nodeKeys, leafKeys, openCells, wholeOf, childrenOf}
 use Rattle.demands.specs.Demands.{AfterEveryDistance}
-use Rattle.demands.specs.Reading.{Once, LeafCorner, LeafCell, part, Reading, treeAfter}
-use Rattle.demands.proofs.Demands.{building}
+use Rattle.demands.specs.Reading.{Once, LeafCorner, ListsCorners, LeafCell, part, Reading, treeAfter}
+use Rattle.demands.specs.Rooms.{RoomFor, nodesWith}
+use Rattle.demands.specs.Most.{MostVertices}
+use Rattle.demands.specs.Batches.{Batches, Done}
+use Rattle.demands.proofs.Demands as demands
 use Rattle.demands.proofs.Reading.{of-sound-trees, of-finished-builds}
+use Rattle.demands.proofs.Rooms as rooms
+use Rattle.demands.proofs.Most as most
+use Rattle.demands.proofs.Batches as batches
 
 -- ---- a build is whole at every step
 
 module _ (bound : ℕ) (lent : Tables) (given : List Float) (s : State) (t : Tables) (run : Run bound lent given s t) where
   whole : AfterEveryDistance bound lent given s t
-  whole = building bound lent given s t run
+  whole = demands.building bound lent given s t run
 
   -- After every accepted distance each cell of the finest grid lies in exactly one cell that is a leaf, is asked for or is waiting;
   pub each-cell-once : (f : ℕ) → Cell (finest bound) f → holders (finest bound) f (leafKeys s t ++ openCells s t) ≡ 1
@@ -58,7 +67,25 @@ module _ (bound : ℕ) (lent : Tables) (given : List Float) (s : State) (t : Tab
   pub build-ends : length given ≤ nodeRoom (lengthsOf lent)
   build-ends = whole .ends
 
-  -- keys and leaves ascend.
+  -- a node is a leaf exactly if the split rule leaves it whole, and there are no other leaves;
+  pub leaf-by-rule : (i : ℕ) → i < s .nodes
+      → Decides (not (splits (level (getD (t .keys) i 0)) bound (getD (t .distances) i nan))) (In (getD (t .keys) i 0) (leafKeys s t))
+  leaf-by-rule = whole .leaf
+
+  pub leaves-by-rule : leafKeys s t ≡ wholeOf bound (nodeKeys s t) (reverse given)
+  leaves-by-rule = whole .leaves
+
+  -- all cells so far, those that wait last, are the root and the eight children of each node that it splits, in order;
+  pub cells-by-rule : nodeKeys s t ++ openCells s t ≡ 1 ∷ childrenOf bound (nodeKeys s t) (reverse given)
+  cells-by-rule = whole .cells
+
+  -- a finished tree has its n keys and n distances in the first places, and its m leaves with 7n + 1 = 8m; keys and leaves ascend.
+  pub distances-in-order : take (s .nodes) (t .distances) ≡ reverse given
+  distances-in-order = whole .distances
+
+  pub count-of-leaves : s .asked ≡ 0 → 7 * s .nodes + 1 ≡ 8 * s .leaves
+  count-of-leaves = whole .done
+
   pub nodes-ascend : Ascending (nodeKeys s t)
   nodes-ascend = whole .nodes-ascend
 
@@ -68,6 +95,51 @@ module _ (bound : ℕ) (lent : Tables) (given : List Float) (s : State) (t : Tab
   -- A finished build is a sound tree.
   pub finished-sound : s .asked ≡ 0 → Sound (treeAfter s t)
   finished-sound done = of-finished-builds bound lent given s t run done .0
+
+-- ---- which rooms are enough, and which never are
+
+-- With room for n nodes a distance that is asked for is refused only where the tree has more than n,
+pub enough-room : (n bound : ℕ) (lent : Tables) (given : List Float) (s : State) (t : Tables)
+    → RoomFor n lent → Run bound lent given s t → (s .asked ≡ 0 → ⊥)
+    → (d : Float) (k : ℕ) → distanceOf s d t .answer ≡ Refused k → n < nodesWith s d
+enough-room = rooms.enough-room
+
+-- by 7 never where n is the node room,
+pub enough-leaves : (bound : ℕ) (lent : Tables) (given : List Float) (s : State) (t : Tables)
+    → RoomFor (nodeRoom (lengthsOf lent)) lent → Run bound lent given s t
+    → (d : Float) → distanceOf s d t .answer ≡ Refused 7 → ⊥
+enough-leaves = rooms.enough-leaves
+
+-- and distances that finish a build on some tables finish it, with the same tree, on all tables with room for its nodes.
+pub finishes : (bound : ℕ) (large lent : Tables) (given : List Float) (s : State) (t : Tables)
+    → Run bound large given s t → s .asked ≡ 0 → RoomFor (s .nodes) lent
+    → (s' : State) × (t' : Tables) × Run bound lent given s' t' × (s' .asked ≡ 0) × (treeAfter s' t' ≡ treeAfter s t)
+finishes = rooms.finishes
+
+-- A queue of 64 finishes bound 2, and a shorter one lets no build finish.
+pub queue-of-64 : (bound : ℕ) (lent : Tables) (given : List Float)
+    → bound ≤ 2 → 73 ≤ nodeRoom (lengthsOf lent) → 64 ≤ length (lent .leaves) → 64 ≤ length (lent .queue)
+    → length given ≡ 73
+    → (s : State) × (t : Tables) × Run bound lent given s t × (s .asked ≡ 0)
+queue-of-64 = demands.queue-of-64
+
+pub short-queue : (bound : ℕ) (lent : Tables) (given : List Float) (s : State) (t : Tables)
+    → length (lent .queue) < 64 → Run bound lent given s t → s .asked ≡ 0 → ⊥
+short-queue = rooms.short-queue
+
+module _ (bound : ℕ) (lent : Tables) (given : List Float) (s : State) (t : Tables) (run : Run bound lent given s t) (done : s .asked ≡ 0) where
+  few : MostVertices (s .nodes - s .leaves) (treeAfter s t)
+  few = most.most-of-finished-builds bound lent given s t run done
+
+  -- A finished build with s splits, nine at least, has at most 27 + 19(s - 9) vertices, and a list with so many places isn't refused.
+  pub nine-splits : 9 ≤ s .nodes - s .leaves
+  nine-splits = few .nine
+
+  pub most-of-finished-builds : (vertices levels : List ℕ) → Listed (leafKeys s t) vertices levels → length vertices ≤ 27 + 19 * (s .nodes - s .leaves - 9)
+  most-of-finished-builds = few .at-most
+
+  pub enough-for-list : (start k : ℕ) (was left : Lists) → Room start (27 + 19 * (s .nodes - s .leaves - 9)) was → ListSays (treeAfter s t) start was left (list.Refused k) → ⊥
+  enough-for-list = few .enough
 
 -- ---- a finished tree is read right
 
@@ -79,7 +151,13 @@ module _ (t : Tree) (sound : Sound t) (D : ℕ) (deep : D ≤ deepest) (fine : (
   pub leaf-of-each-cell : (f : ℕ) → Cell D f → holders D f (t .leaves) ≡ 1
   leaf-of-each-cell = right .covers .once
 
-  module _ (start n : ℕ) (was left : Lists) (says : ListSays t start was left (Count n)) where
+  -- A list is refused for want of room only, and answered with the number of its vertices.
+  pub listed-by-room : (vertices levels : List ℕ) × ListsCorners (t .leaves) vertices levels
+      × ((start : ℕ) (was left : Lists) (a : ListAnswer) → ListSays t start was left a → Room start (length vertices) was → a ≡ list.Count (length vertices))
+      × ((start : ℕ) (was left : Lists) (a : ListAnswer) → ListSays t start was left a → (Room start (length vertices) was → ⊥) → a ≡ list.Refused 12)
+  listed-by-room = (right .answered .vertices, right .answered .levels, right .answered .corners, right .answered .room, right .answered .no-room)
+
+  module _ (start n : ℕ) (was left : Lists) (says : ListSays t start was left (list.Count n)) where
     -- Every leaf corner strictly inside the cube is listed once,
     pub listed-once : (v L : ℕ) → LeafCorner (t .leaves) v L → Once v (part start n (left .vertices))
     listed-once = right .list start n was left says .once
@@ -137,6 +215,22 @@ trusting-is-dual-cell = dual.trusting-is-dual-cell
 pub cells-right : (t : Tree) → Sound t → (from : ℕ) (was left : Cells) (n : ℕ) → CellsSays (t .keys) from was left n → (j i : ℕ) → j < n → i < 8
     → EntryAt t (getD (left .levels) j 0) (getD (left .vertices) j 0) i (getD (left .places) (8 * j + i) 0)
 cells-right = rounds.cells-right
+
+-- ---- a host that is handed vertices some at a time
+
+-- It begins with 0, goes on with the last vertex + 1, a number of 64 bits, and is done when fewer came than have room: of any keys at all it then has each vertex once.
+pub number-fits : (ks : List ℕ) (calls from : ℕ) (got : Cells) → Batches ks calls from got → from < 2 ^ 64
+number-fits ks calls from got b = batches.of-full-batches ks calls from got b .fits
+
+pub batches-all : (ks : List ℕ) (calls : ℕ) (got : Cells) → Done ks calls got → got ≡ cellsOf (verticesOf (spotsOf ks)) (levelsOf (spotsOf ks)) (placesOf ks (spotsOf ks))
+batches-all ks calls got d = batches.of-all-batches ks calls got d .all
+
+pub batches-end : (ks : List ℕ) (calls : ℕ) (got : Cells) → Done ks calls got → calls ≤ length (got .vertices) + 1
+batches-end ks calls got d = batches.of-all-batches ks calls got d .ends
+
+-- Of a sound tree these are its list.
+pub batches-listed : (t : Tree) → Sound t → (calls : ℕ) (got : Cells) → Done (t .keys) calls got → Listed (t .leaves) (got .vertices) (got .levels)
+batches-listed t sound calls got d = batches.of-sound-trees-in-batches t sound calls got d .listed
 
 -- ---- floats are exact
 
