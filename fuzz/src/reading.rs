@@ -34,11 +34,11 @@ impl Found {
         Found { key: Out::new(), distance: Out::new(), tried: Out::new() }
     }
 
-    /// Where nothing is found the key is 0, and the distance isn't handed out.
+    /// Where nothing is found, the key and the distance are 0.
     fn differences(mut self, answer: Option<Lookup>) -> [Option<String>; 3] {
         let (key, distance, tried) = match answer {
             Some(Lookup::Found { key, distance, tried }) => (Some([key]), Some([one_nan(distance)]), Some([tried])),
-            Some(Lookup::Nothing { tried }) => (Some([0]), None, Some([tried])),
+            Some(Lookup::Nothing { tried }) => (Some([0]), Some([0]), Some([tried])),
             None => (None, None, None),
         };
         self.distance.settle(one_nan);
