@@ -1,9 +1,8 @@
 //! The calls that read a finished tree, over sound trees, nearly sound ones and noise.
 
-use crate::builds::disturb;
-use crate::calls::{yes_or_no, ACCEPTED};
-use crate::case::{number, or_edge, same, told, Case, Checked, Out};
-use crate::keys::vertex_and_level;
+use crate::case::{same, told, Case, Checked, Out};
+use crate::inputs::{disturb, number, or_edge, vertex_and_level};
+use crate::outcomes::{yes_or_no, ACCEPTED};
 use mittenhelm::raw::{
     mittenhelm_cells_trusting, mittenhelm_dual_cell, mittenhelm_dual_cell_trusting, mittenhelm_list, mittenhelm_list_trusting,
     mittenhelm_look_up, mittenhelm_look_up_trusting, mittenhelm_sound,
