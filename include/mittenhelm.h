@@ -124,7 +124,7 @@ bool mittenhelm_sound(
     const uint64_t *leaves, size_t leaves_length);
 
 /* Finds the deepest present of a cell key and its ancestors of level 1 or more, with its distance, and says how many keys were
- * tried; where none is present, the key found is 0 and the distance's place stays as it was. Refusals 11, 1. */
+ * tried; where none is present, the key found and the distance are 0. Refusals 11, 1. */
 uint32_t mittenhelm_look_up(
     const uint64_t *keys, size_t keys_length, const float *distances, size_t distances_length,
     const uint64_t *leaves, size_t leaves_length,

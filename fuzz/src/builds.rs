@@ -1,8 +1,9 @@
 //! Start and distance, over states and tables of all kinds: noise, what fits, what nearly fits, and builds that are driven on
 //! while their state and tables change under them.
 
-use crate::calls::ACCEPTED;
-use crate::case::{number, or_edge, told, Case, Checked, Difference, Out};
+use crate::case::{told, Case, Checked, Difference, Out};
+use crate::inputs::{disturb, number, or_edge};
+use crate::outcomes::ACCEPTED;
 use crate::reading::Given;
 use mittenhelm::raw::{mittenhelm_distance, mittenhelm_start};
 use oracle_answers::fields::{field, KINDS};
@@ -177,17 +178,6 @@ fn noise(random: &mut Random) -> Forged {
         words[4..].copy_from_slice(&tables.lengths());
     }
     Forged { words, tables }
-}
-
-/// Changes a table: a place, two places, or its length.
-pub fn disturb<T: Copy>(table: &mut Vec<T>, value: T, random: &mut Random) {
-    let length = table.len() as u64;
-    match random.below(4) {
-        0 if length > 0 => table[random.below(length) as usize] = value,
-        1 if length > 0 => table.swap(random.below(length) as usize, random.below(length) as usize),
-        2 => table.truncate(random.below(length + 1) as usize),
-        _ => table.resize(table.len() + 1 + random.below(70) as usize, value),
-    }
 }
 
 /// Changes a thing of the state or the tables.

@@ -1,36 +1,19 @@
 //! The calls of include/mittenhelm.h, each with what it can answer and how it is fed. A new one is one more entry.
 
 use crate::case::{Case, Checked};
+use crate::outcomes::{Answers, ONE_WAY, YES_OR_NO};
 use crate::{builds, keys, reading};
 
 pub struct Call {
-    /// As the header has it, without `mittenhelm_`.
-    pub name: &'static str,
-    /// The ways in which it accepts.
-    pub accepts: &'static [&'static str],
-    /// The refusals that it can give, in their order.
-    pub refuses: &'static [u32],
+    pub answers: Answers,
     /// Makes a case of it.
     pub feed: fn(&mut Case) -> Checked,
 }
 
-/// The way of a call that accepts in one way only.
-pub const ACCEPTED: &str = "accepted";
-
-/// The way of a call that answers by yes or no.
-pub fn yes_or_no(yes: bool) -> &'static str {
-    YES_OR_NO[!yes as usize]
-}
-
-const YES_OR_NO: &[&str] = &["yes", "no"];
-
-/// The ways of a call that accepts in one way only.
-const ONE_WAY: &[&str] = &[ACCEPTED];
-
 /// A call by its name, with its ways, its refusals and what feeds it.
 macro_rules! call {
     ($name:literal, $accepts:expr, $refuses:expr, $feed:path) => {
-        Call { name: $name, accepts: $accepts, refuses: &$refuses, feed: $feed }
+        Call { answers: Answers { name: $name, accepts: $accepts, refuses: &$refuses }, feed: $feed }
     };
 }
 

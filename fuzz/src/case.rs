@@ -1,10 +1,8 @@
-//! One case: the random numbers that it goes by, the verdict on each of its calls, and a count of what was answered.
+//! One case: the random numbers that it goes by, the places that its calls answer to, and the verdict on each of them.
 
-use crate::calls::CALLS;
+use crate::outcomes::{Outcome, Tally};
 use oracle_answers::inputs::Random;
 use oracle_answers::lent::{Fenced, Place};
-use oracle_answers::model::Answer;
-use std::collections::BTreeMap;
 use std::fmt::{Debug, LowerHex};
 
 /// Where ours and the model differ: the call with its arguments, and in what.
@@ -12,29 +10,9 @@ pub struct Difference(pub String);
 
 pub type Checked = Result<(), Difference>;
 
-/// What a call answered: the way in which it accepted, or the number of its refusal.
-pub type Outcome = Answer<&'static str>;
-
-/// For one call, in how many cases it was fed, and how often each outcome was seen.
-#[derive(Default)]
-pub struct Tally {
-    pub cases: u64,
-    pub seen: BTreeMap<Outcome, u64>,
-}
-
-impl Tally {
-    pub fn calls(&self) -> u64 {
-        self.seen.values().sum()
-    }
-
-    pub fn of(&self, outcome: Outcome) -> u64 {
-        self.seen.get(&outcome).copied().unwrap_or(0)
-    }
-}
-
 pub struct Case<'a> {
     pub random: Random,
-    /// In the order of `CALLS`.
+    /// One for each call that may be judged.
     tallies: &'a mut [Tally],
 }
 
@@ -57,15 +35,11 @@ impl<'a> Case<'a> {
         if let Some(difference) = difference.iter().chain(differences.iter().flatten()).next() {
             return Err(Difference(format!("{name}({}): {difference}", arguments())));
         }
-        let place = CALLS.iter().position(|call| call.name == name).expect("a call of the table");
-        let listed = match expected {
-            Ok(way) => CALLS[place].accepts.contains(&way),
-            Err(number) => CALLS[place].refuses.contains(&number),
-        };
-        if !listed {
+        let tally = self.tallies.iter_mut().find(|tally| tally.call.name == name).expect("a call of the table");
+        if !tally.call.all().any(|outcome| outcome == expected) {
             return Err(Difference(format!("{name}({}): {expected:?} isn't among what it can answer", arguments())));
         }
-        *self.tallies[place].seen.entry(expected).or_default() += 1;
+        tally.count(expected);
         Ok(())
     }
 }
@@ -139,27 +113,4 @@ pub fn told<T: LowerHex>(table: &[T]) -> String {
     let places: Vec<String> = table.iter().take(MOST).map(|place| format!("{place:#x}")).collect();
     let more = if table.len() > MOST { " .." } else { "" };
     format!("{} places [{}{more}]", table.len(), places.join(" "))
-}
-
-/// Any number, of the kinds where something can go wrong, and those beside them.
-pub fn number(random: &mut Random) -> u64 {
-    let number = random.number();
-    match random.below(10) {
-        0 => number ^ 1 << random.below(64),
-        1 => number.wrapping_add(random.below(17)).wrapping_sub(8),
-        2 => random.below(600),
-        3 => random.bits(),
-        4 => random.one_of(&[0, 1, 7, 8, 15, 16, 1 << 63, u64::MAX]),
-        _ => number,
-    }
-}
-
-/// A level, bound or exponent: what is given, or in one of five cases any number at which something may change.
-pub fn or_edge(given: u32, random: &mut Random) -> u32 {
-    const EDGES: [u32; 20] = [0, 1, 2, 14, 15, 16, 17, 19, 20, 21, 22, 31, 32, 33, 63, 64, 256, 1 << 16, 1 << 31, u32::MAX];
-    match random.below(10) {
-        0 => random.one_of(&EDGES),
-        1 => random.bits() as u32,
-        _ => given,
-    }
 }

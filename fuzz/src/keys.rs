@@ -1,7 +1,8 @@
 //! The calls on keys by value, and the slab of a vertex.
 
-use crate::calls::{yes_or_no, ACCEPTED};
-use crate::case::{number, or_edge, same, Case, Checked, Out};
+use crate::case::{same, Case, Checked, Out};
+use crate::inputs::{number, or_edge, vertex_and_level};
+use crate::outcomes::{yes_or_no, ACCEPTED};
 use mittenhelm::raw::*;
 use oracle_answers::inputs::Random;
 use oracle_answers::model::{self, reading, Answer};
@@ -65,12 +66,6 @@ pub fn is_cell(case: &mut Case) -> Checked {
         judge_yes(case, "is_cell", ours, model::is_cell(key), || format!("{key:#x}"))?;
     }
     Ok(())
-}
-
-/// A number and a level at which it may be an inner vertex.
-pub fn vertex_and_level(random: &mut Random) -> (u64, u32) {
-    let (vertex, level) = random.vertex_and_level();
-    (if random.below(16) == 0 { number(random) } else { vertex }, or_edge(level, random))
 }
 
 pub fn is_inner(case: &mut Case) -> Checked {

@@ -4,12 +4,15 @@
 mod builds;
 mod calls;
 mod case;
+mod inputs;
 mod keys;
+mod outcomes;
 mod reading;
 mod signals;
 
-use calls::{Call, CALLS};
-use case::{Case, Difference, Outcome, Tally};
+use calls::CALLS;
+use case::{Case, Difference};
+use outcomes::{Outcome, Tally};
 use std::env;
 use std::fmt::Write;
 use std::io::{self, Write as _};
@@ -74,7 +77,7 @@ fn main() -> ExitCode {
         }
     };
     signals::install(options.seed);
-    let mut tallies: Vec<Tally> = CALLS.iter().map(|_| Tally::default()).collect();
+    let mut tallies: Vec<Tally> = CALLS.iter().map(|call| Tally::new(&call.answers)).collect();
     let differs = run(&options, &mut tallies);
     // A reader that went away early has what it wanted.
     let _ = io::stdout().write_all(summary(&options, &tallies).as_bytes());
@@ -108,12 +111,7 @@ fn run_case(seed: u64, number: u64, tallies: &mut [Tally]) -> Result<(), Differe
     tallies[place].cases += 1;
     let mut case = Case::new(seed, number, tallies);
     let feed = AssertUnwindSafe(|| (CALLS[place].feed)(&mut case));
-    panic::catch_unwind(feed).unwrap_or_else(|_| Err(Difference(format!("a panic in a case of {}", CALLS[place].name))))
-}
-
-/// All that a call can answer.
-fn outcomes(call: &Call) -> impl Iterator<Item = Outcome> {
-    call.accepts.iter().map(|&way| Ok(way)).chain(call.refuses.iter().map(|&number| Err(number)))
+    panic::catch_unwind(feed).unwrap_or_else(|_| Err(Difference(format!("a panic in a case of {}", CALLS[place].answers.name))))
 }
 
 fn told(outcome: Outcome) -> String {
@@ -123,9 +121,9 @@ fn told(outcome: Outcome) -> String {
 fn summary(options: &Options, tallies: &[Tally]) -> String {
     let cases: u64 = tallies.iter().map(|tally| tally.cases).sum();
     let mut text = format!("seed {}, {cases} cases\n{:<18} {:>10} {:>12}  answers\n", options.seed, "call", "cases", "calls");
-    for (call, tally) in CALLS.iter().zip(tallies) {
-        let answers: Vec<String> = outcomes(call).map(|outcome| format!("{} {}", told(outcome), tally.of(outcome))).collect();
-        writeln!(text, "{:<18} {:>10} {:>12}  {}", call.name, tally.cases, tally.calls(), answers.join(", "))
+    for tally in tallies {
+        let answers: Vec<String> = tally.call.all().map(|outcome| format!("{} {}", told(outcome), tally.of(outcome))).collect();
+        writeln!(text, "{:<18} {:>10} {:>12}  {}", tally.call.name, tally.cases, tally.calls(), answers.join(", "))
             .expect("a String takes all that is written");
     }
     text
@@ -133,11 +131,9 @@ fn summary(options: &Options, tallies: &[Tally]) -> String {
 
 /// A line for each outcome that was never seen.
 fn idle(tallies: &[Tally]) -> Vec<String> {
-    let never = |(call, tally): (&'static Call, _)| {
-        let tally: &Tally = tally;
-        outcomes(call)
-            .filter(move |&outcome| tally.of(outcome) == 0)
-            .map(|outcome| format!("{}: never {}", call.name, told(outcome)))
+    let never = |tally: &Tally| {
+        let unseen = tally.call.all().filter(|&outcome| tally.of(outcome) == 0);
+        unseen.map(|outcome| format!("{}: never {}", tally.call.name, told(outcome))).collect::<Vec<_>>()
     };
-    CALLS.iter().zip(tallies).flat_map(never).collect()
+    tallies.iter().flat_map(never).collect()
 }

@@ -1,9 +1,8 @@
 //! The calls that read a finished tree, over sound trees, nearly sound ones and noise.
 
-use crate::builds::disturb;
-use crate::calls::{yes_or_no, ACCEPTED};
-use crate::case::{number, or_edge, same, told, Case, Checked, Out};
-use crate::keys::vertex_and_level;
+use crate::case::{same, told, Case, Checked, Out};
+use crate::inputs::{disturb, number, or_edge, vertex_and_level};
+use crate::outcomes::{yes_or_no, ACCEPTED};
 use mittenhelm::raw::{
     mittenhelm_cells_trusting, mittenhelm_dual_cell, mittenhelm_dual_cell_trusting, mittenhelm_list, mittenhelm_list_trusting,
     mittenhelm_look_up, mittenhelm_look_up_trusting, mittenhelm_sound,
@@ -34,11 +33,11 @@ impl Found {
         Found { key: Out::new(), distance: Out::new(), tried: Out::new() }
     }
 
-    /// Where nothing is found the key is 0, and the distance isn't handed out.
+    /// Where nothing is found, the key and the distance are 0.
     fn differences(mut self, answer: Option<Lookup>) -> [Option<String>; 3] {
         let (key, distance, tried) = match answer {
             Some(Lookup::Found { key, distance, tried }) => (Some([key]), Some([one_nan(distance)]), Some([tried])),
-            Some(Lookup::Nothing { tried }) => (Some([0]), None, Some([tried])),
+            Some(Lookup::Nothing { tried }) => (Some([0]), Some([0]), Some([tried])),
             None => (None, None, None),
         };
         self.distance.settle(one_nan);

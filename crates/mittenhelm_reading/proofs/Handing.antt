@@ -2,7 +2,7 @@
 use Prim.Native.Nat.{ℕ}
 use mathlib.Core.Path.{_≡_, refl, sym, subst, _∙_}
 use mathlib.Core.List.{List}
-use lib.Ieee.{Float}
+use lib.Ieee.{Float, ofBits, binary32}
 use Rattle.tree.specs.declared.Lookup.{Lookup}
 use Rattle.tree.specs.declared.Lookup.the-variants as lookup
 use Rattle.vertices.specs.declared.ListAnswer.{ListAnswer}
@@ -16,8 +16,8 @@ use Rattle.mittenhelm_reading.specs.Reading.{Found, foundAt, HandsFound,
 pub found-is : (a : Lookup) (was : Found) (k : ℕ) (d : Float) (n : ℕ) → a ≡ lookup.Found k d n → HandsFound a was 0 (foundAt k d n)
 found-is a was k d n e = subst (λ (b : Lookup). HandsFound b was 0 (foundAt k d n)) (sym e) (refl, refl)
 
-pub found-nothing : (a : Lookup) (was : Found) (n : ℕ) → a ≡ lookup.Nothing n → HandsFound a was 0 (foundAt 0 (was .distance) n)
-found-nothing a was n e = subst (λ (b : Lookup). HandsFound b was 0 (foundAt 0 (was .distance) n)) (sym e) (refl, refl)
+pub found-nothing : (a : Lookup) (was : Found) (n : ℕ) → a ≡ lookup.Nothing n → HandsFound a was 0 (foundAt 0 (ofBits binary32 0) n)
+found-nothing a was n e = subst (λ (b : Lookup). HandsFound b was 0 (foundAt 0 (ofBits binary32 0) n)) (sym e) (refl, refl)
 
 pub found-refused : (a : Lookup) (was : Found) (k : ℕ) → a ≡ lookup.Refused k → HandsFound a was k was
 found-refused a was k e = subst (λ (b : Lookup). HandsFound b was k was) (sym e) (refl, refl)

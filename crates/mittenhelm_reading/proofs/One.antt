@@ -2,6 +2,7 @@
 use mathlib.Core.Path.{_≡_, ap, subst}
 use mathlib.Core.Bool.{Bool}
 use Prim.Native.Nat.{ℕ}
+use lib.Ieee.{ofBits, binary32}
 use Rattle.morton.proofs.One.{OnlyOne, both, handed-on}
 use Rattle.tree.specs.declared.Lookup.{Lookup}
 use Rattle.tree.specs.declared.Lookup.the-variants as lookup
@@ -27,7 +28,7 @@ sound-one t = sound-answer-one t
 
 pub hand-found-one : (a : Lookup) (was : Found) → OnlyOne (λ (r : ℕ × Found). HandsFound a was (r .0) (r .1))
 hand-found-one (lookup.Found k d n) was = both 0 (foundAt k d n)
-hand-found-one (lookup.Nothing n) was = both 0 (foundAt 0 (was .distance) n)
+hand-found-one (lookup.Nothing n) was = both 0 (foundAt 0 (ofBits binary32 0) n)
 hand-found-one (lookup.Refused k) was = both k was
 
 pub look-up-one : (t : Tree) (k : ℕ) (was : Found) → OnlyOne (λ (r : ℕ × Found). HandsLookup t k was (r .0) (r .1))

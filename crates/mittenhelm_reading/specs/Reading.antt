@@ -2,7 +2,7 @@
 use Prim.Native.Nat.{ℕ}
 use mathlib.Core.Path.{_≡_}
 use mathlib.Core.List.{List}
-use lib.Ieee.{Float}
+use lib.Ieee.{Float, ofBits, binary32}
 use Rattle.tree.specs.declared.Lookup.{Lookup}
 use Rattle.tree.specs.declared.Lookup.the-variants as lookup
 use Rattle.tree.specs.Tree.{Tree}
@@ -26,10 +26,10 @@ pub record Found : Type 0 where
 abbrev pub foundAt : ℕ → Float → ℕ → Found
 foundAt key distance tried = record { key = key; distance = distance; tried = tried }
 
--- Nothing is handed over as the key 0, which is no cell key, and leaves the distance.
+-- Nothing is handed over as the key 0, which is no cell key, and the distance 0.
 abbrev pub HandsFound : Lookup → Found → ℕ → Found → Type 0
 HandsFound (lookup.Found k d n) was r out = (r ≡ 0) × (out ≡ foundAt k d n)
-HandsFound (lookup.Nothing n) was r out = (r ≡ 0) × (out ≡ foundAt 0 (was .distance) n)
+HandsFound (lookup.Nothing n) was r out = (r ≡ 0) × (out ≡ foundAt 0 (ofBits binary32 0) n)
 HandsFound (lookup.Refused k) was r out = (r ≡ k) × (out ≡ was)
 
 -- The answer is the one that `look_up` promises.

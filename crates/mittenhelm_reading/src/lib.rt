@@ -28,6 +28,7 @@ pub fn hand_found(answer: Lookup, found: &mut u64, distance: &mut f32, tried: &m
         }
         Lookup::Nothing { tried: n } => {
             *found = 0;
+            *distance = 0.0;
             *tried = n;
             0
         }

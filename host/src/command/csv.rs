@@ -1,8 +1,8 @@
 //! A slice as a table for programs: a row of names, then a row for each slab, leaf, vertex or dual cell.
 
+use super::cut::Cut;
 use super::fault::Fault;
 use super::reading::{Cell, Count, Leaf, Reading};
-use super::slice::Cut;
 use mittenhelm::Refusal;
 use std::fmt::Display;
 

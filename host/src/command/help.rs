@@ -2,10 +2,10 @@
 
 use super::build::{LEAST_BOUND, MOST_NODES};
 use super::csv::TABLES;
+use super::cut::{MOST_BOUND, MOST_EXPONENT, USUAL_BOUND, USUAL_EXPONENT};
 use super::fields::BUILT_INS;
 use super::grid::POINTS;
 use super::sample::USUAL_POINTS;
-use super::slice::{MOST_BOUND, MOST_EXPONENT, USUAL_BOUND, USUAL_EXPONENT};
 
 pub fn page() -> String {
     let parts: String = BUILT_INS.iter().map(|part| format!("  {:<11} {}\n", part.name, part.about)).collect();

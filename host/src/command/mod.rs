@@ -3,6 +3,7 @@
 mod arguments;
 mod build;
 mod csv;
+mod cut;
 mod fault;
 mod fields;
 mod grid;

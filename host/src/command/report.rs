@@ -1,10 +1,10 @@
 //! The report of a slice for a person to read.
 
 use super::build::LEAST_BOUND;
+use super::cut::Cut;
 use super::memory::{Table, PRINTER};
 use super::part::Part;
 use super::reading::{Count, Reading};
-use super::slice::Cut;
 use std::fmt::{self, Write};
 
 /// The longest bar of a slab.

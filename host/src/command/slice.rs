@@ -3,6 +3,7 @@
 use super::arguments::Arguments;
 use super::build::{Built, Lent, MOST_NODES};
 use super::csv;
+use super::cut::{Cut, MOST_BOUND, MOST_EXPONENT, USUAL_BOUND, USUAL_EXPONENT};
 use super::fault::Fault;
 use super::memory;
 use super::output::{print, save_by, shown};
@@ -13,19 +14,6 @@ use super::report::{self, Picture};
 use super::svg;
 use std::ffi::OsString;
 use std::path::Path;
-
-pub const MOST_BOUND: u32 = 15;
-pub const MOST_EXPONENT: u32 = 15;
-pub const USUAL_BOUND: u32 = 4;
-pub const USUAL_EXPONENT: u32 = 4;
-
-/// How a part is cut.
-pub struct Cut {
-    pub bound: u32,
-    /// There are two to the power of this many slabs.
-    pub exponent: u32,
-    pub nodes: u32,
-}
 
 pub fn run(words: &[OsString]) -> Result<(), Fault> {
     let arguments = Arguments::new(words, &["--bound", "--exponent", "--nodes", "--csv", "--svg", "--slab"])?;
@@ -69,16 +57,5 @@ fn picture<'a>(arguments: &Arguments<'a>, cut: &Cut) -> Result<Option<(&'a Path,
     match (arguments.path("--svg")?, slab) {
         (None, Some(_)) => Err(Fault::arguments("--slab chooses what --svg FILE shows, and that isn't given")),
         (path, slab) => Ok(path.map(|path| (path, slab.unwrap_or(slabs / 2)))),
-    }
-}
-
-impl Cut {
-    pub fn slabs(&self) -> u32 {
-        1 << self.exponent
-    }
-
-    /// The height of a slab's low side; with a half, of its middle.
-    pub fn height(&self, slabs: f64) -> f64 {
-        slabs / f64::from(self.slabs())
     }
 }

@@ -1,8 +1,8 @@
 //! A picture of one slab: the leaves that its middle plane cuts, and the vertices of its dual cells.
 
+use super::cut::Cut;
 use super::part::Part;
 use super::reading::{Cell, Leaf, Reading};
-use super::slice::Cut;
 use mittenhelm::Refusal;
 use std::collections::BTreeMap;
 use std::fmt::{self, Write};

@@ -92,7 +92,7 @@ static void read_tree(uint64_t middle)
     expect(mittenhelm_look_up(TREE, 8 * 71 + 3, &found, &distance, &tried) == MITTENHELM_ACCEPTED, "look_up");
     expect(found == 71 && distance == 17.0f && tried == 2, "the deepest ancestor");
     expect(mittenhelm_look_up(TREE, 1, &found, &distance, &tried) == MITTENHELM_ACCEPTED, "look_up of the root");
-    expect(found == 0 && distance == 17.0f && tried == 0, "the root is never tried");
+    expect(found == 0 && distance == 0.0f && tried == 0, "the root is never tried");
     expect(mittenhelm_look_up(TREE, 16, &found, &distance, &tried) == MITTENHELM_NOT_A_CELL, "look_up of no cell");
     expect(mittenhelm_look_up(keys, 73, distances, 73, leaves, 63, 16, &found, &distance, &tried) == MITTENHELM_NOT_SOUND,
         "look_up without a leaf");
@@ -115,7 +115,7 @@ static void read_tree(uint64_t middle)
     expect(mittenhelm_look_up_trusting(NODES, 16, &found, &distance, &tried) == MITTENHELM_NOT_A_CELL, "trust and no cell");
     expect(mittenhelm_look_up_trusting(keys, 73, distances, 0, 120, &found, &distance, &tried) == MITTENHELM_ACCEPTED,
         "look_up_trusting without distances");
-    expect(found == 0 && distance == 66.0f && tried == 2, "nothing without a distance");
+    expect(found == 0 && distance == 0.0f && tried == 2, "nothing without a distance");
 
     count = 5;
     vertices[2] = 5;

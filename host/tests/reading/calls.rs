@@ -228,7 +228,7 @@ impl Given {
         let number = look_up(&mut found, &mut distance, &mut tried);
         let expected_out = match expected {
             Ok(Lookup::Found { key, distance, tried }) => (0, key, one_nan(distance), tried),
-            Ok(Lookup::Nothing { tried }) => (0, 0, UNTOUCHED_FLOAT, tried),
+            Ok(Lookup::Nothing { tried }) => (0, 0, 0, tried),
             Err(number) => (number, UNTOUCHED, UNTOUCHED_FLOAT, UNTOUCHED_COUNT),
         };
         self.agree(&(number, found, one_nan(distance.to_bits()), tried), &expected_out, call);

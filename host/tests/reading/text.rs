@@ -111,6 +111,12 @@ fn compare_own(tree: &Tree, theirs: &Tree, ours: &[(u64, u32, DualCell)], compar
     compared.own_reached += reached.len() as u64;
 }
 
+/// So many vertices have room in the table that README.md says is enough: 27 of the nine splits of every build, 19 of each other.
+fn assert_within_bound(nodes: usize, vertices: usize) {
+    let others = ((nodes - 1) / 8).checked_sub(9).expect("the root and its children are split");
+    assert!(vertices <= 27 + 19 * others, "{vertices} vertices of {nodes} nodes");
+}
+
 /// Fields of each kind and bound: with 13 kinds and 16 bounds, 1,248 trees, all but a few of up to 4,096 nodes.
 const FIELDS: u64 = 6;
 
@@ -126,6 +132,7 @@ fn trees_of(kind: Kind) {
             }
             let given = Given::new(tree.tables());
             let ours = compare(&given, &mut seen);
+            assert_within_bound(tree.nodes.len(), ours.len());
             if compares_with_text() {
                 compare_published(&given, &ours, &mut compared);
                 compare_own(&tree, &Tree::by_published(bound, &*field), &ours, &mut compared);

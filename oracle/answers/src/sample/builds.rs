@@ -1,7 +1,7 @@
 //! Builds in the sample. A start line sets every place of four tables of 1,024 to 0 and lends the first ones, a distance line goes
 //! on with the build that was last started, and place lines tell what then stands in the tables.
 
-use super::Sample;
+use super::lines::Sample;
 use crate::fields::cell_at;
 use crate::inputs::{around_split_edge, first_cell, last_cell};
 use crate::model::build::{self, Request, Tables, STATE_WORDS};

@@ -16,7 +16,7 @@
 //! table of 1,024 to 0, and lends as many as C says, 16 bits each; a listed line tells what then stands at a place of both. A lookup
 //! that answers nothing has key and distance 0.
 
-use super::Sample;
+use super::lines::Sample;
 use crate::inputs::{first_cell, last_cell};
 use crate::integer;
 use crate::model::reading::{slab, Lookup, Reading, Tables};

@@ -1,0 +1,60 @@
+//! What README.md and the header say is proved: each theorem that they name is a field of the page crates/theorems/specs/Theorems.antt,
+//! which the prover checks.
+
+use std::collections::BTreeSet;
+use std::fs;
+use std::path::Path;
+
+fn text_of(file: &str) -> String {
+    let path = Path::new(env!("CARGO_MANIFEST_DIR")).join("..").join(file);
+    fs::read_to_string(&path).unwrap_or_else(|e| panic!("{}: {e}", path.display()))
+}
+
+/// A section of a page, up to the next one.
+fn section<'a>(page: &'a str, heading: &str) -> &'a str {
+    let (_, after) = page.split_once(&format!("\n## {heading}\n")).unwrap_or_else(|| panic!("no section {heading:?}"));
+    after.split("\n## ").next().unwrap_or(after)
+}
+
+/// Whether a word is written as theorems are: words of lowercase letters and digits, with hyphens between them. No file, call, option
+/// or constant is.
+fn is_theorem(word: &str) -> bool {
+    let is_word = |part: &str| !part.is_empty() && part.chars().all(|c| c.is_ascii_lowercase() || c.is_ascii_digit());
+    word.contains('-') && word.split('-').all(is_word)
+}
+
+/// The theorems that a text names, between backticks.
+fn named(text: &str) -> BTreeSet<&str> {
+    let parts: Vec<&str> = text.split('`').collect();
+    assert!(parts.len() % 2 == 1, "a backtick has no other in {text}");
+    parts.into_iter().skip(1).step_by(2).filter(|word| is_theorem(word)).collect()
+}
+
+/// The field that a line of a page of theorems begins with.
+fn field(line: &str) -> Option<&str> {
+    line.strip_prefix("  pub ")?.split_once(" :").map(|(name, _)| name)
+}
+
+#[test]
+fn every_theorem_that_is_named_is_on_the_page() {
+    let (readme, header) = (text_of("README.md"), text_of("include/mittenhelm.h"));
+    let page = text_of("crates/theorems/specs/Theorems.antt");
+    let stated: BTreeSet<&str> = page.lines().filter_map(field).collect();
+    let promised = named(section(&readme, "What is promised"));
+    assert!(!promised.is_empty(), "README.md promises no theorem by its name");
+    for (place, names) in
+        [("README.md", promised), ("README.md", named(section(&readme, "Memory"))), ("the header", named(&header))]
+    {
+        let missing: Vec<_> = names.difference(&stated).collect();
+        assert!(missing.is_empty(), "{place} names {missing:?}, which the page doesn't state");
+    }
+}
+
+#[test]
+fn what_is_taken_for_a_theorem() {
+    let text = "`list-same` of `crates/x-y`, `tools/memory --check`, `--check`, `look_up` and `cells-2-right`; `Not-one`, `x-`";
+    assert_eq!(named(text), BTreeSet::from(["cells-2-right", "list-same"]));
+    assert_eq!(field("  pub list-same : (t : Tree) → Sound t"), Some("list-same"));
+    assert_eq!((field("pub record Theorems : Type 0 where"), field("  -- list-same :")), (None, None));
+    assert_eq!(section("# A\n\n## B\n\nb\n\n## C\n\nc\n", "B"), "\nb\n");
+}
