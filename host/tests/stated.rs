@@ -1,5 +1,5 @@
-//! What README.md and the header say is proved: each theorem that they name is a field of the page crates/theorems/specs/Theorems.antt,
-//! which the prover checks.
+//! What README.md and the header say is proved: each theorem that they name stands with its statement on the pages of
+//! crates/theorems, which the prover checks, and so does the one answer of each call.
 
 use std::collections::BTreeSet;
 use std::fs;
@@ -30,16 +30,22 @@ fn named(text: &str) -> BTreeSet<&str> {
     parts.into_iter().skip(1).step_by(2).filter(|word| is_theorem(word)).collect()
 }
 
-/// The field that a line of a page of theorems begins with.
-fn field(line: &str) -> Option<&str> {
-    line.strip_prefix("  pub ")?.split_once(" :").map(|(name, _)| name)
+/// The theorem whose statement a line of a page begins.
+fn stated(line: &str) -> Option<&str> {
+    line.trim_start().strip_prefix("pub ")?.split_once(" :").map(|(name, _)| name)
+}
+
+/// The calls that the header declares, without `mittenhelm_`.
+fn calls(header: &str) -> BTreeSet<&str> {
+    let declared = header.split("mittenhelm_").skip(1).filter_map(|text| text.split_once('(').map(|(name, _)| name));
+    declared.filter(|name| name.chars().all(|c| c.is_ascii_lowercase() || c == '_')).collect()
 }
 
 #[test]
 fn every_theorem_that_is_named_is_on_the_page() {
     let (readme, header) = (text_of("README.md"), text_of("include/mittenhelm.h"));
     let page = text_of("crates/theorems/specs/Theorems.antt");
-    let stated: BTreeSet<&str> = page.lines().filter_map(field).collect();
+    let stated: BTreeSet<&str> = page.lines().filter_map(stated).collect();
     let promised = named(section(&readme, "What is promised"));
     assert!(!promised.is_empty(), "README.md promises no theorem by its name");
     for (place, names) in
@@ -51,10 +57,27 @@ fn every_theorem_that_is_named_is_on_the_page() {
 }
 
 #[test]
+fn every_call_has_its_one_answer_on_the_page() {
+    let (page, header) = (text_of("crates/theorems/specs/Settled.antt"), text_of("include/mittenhelm.h"));
+    let stated: BTreeSet<&str> = page.lines().filter_map(stated).collect();
+    let calls = calls(&header);
+    assert!(calls.contains("level") && calls.contains("cells_trusting"), "the header's calls were read as {calls:?}");
+    for call in calls {
+        let name = format!("mittenhelm-{}-one", call.replace('_', "-"));
+        assert!(stated.contains(&*name), "the page doesn't state {name}");
+    }
+}
+
+#[test]
 fn what_is_taken_for_a_theorem() {
     let text = "`list-same` of `crates/x-y`, `tools/memory --check`, `--check`, `look_up` and `cells-2-right`; `Not-one`, `x-`";
     assert_eq!(named(text), BTreeSet::from(["cells-2-right", "list-same"]));
-    assert_eq!(field("  pub list-same : (t : Tree) → Sound t"), Some("list-same"));
-    assert_eq!((field("pub record Theorems : Type 0 where"), field("  -- list-same :")), (None, None));
+    assert_eq!(stated("  pub list-same : (t : Tree) → Sound t"), Some("list-same"));
+    assert_eq!(stated("pub starred : agree table ≡ true"), Some("starred"));
+    assert_eq!((stated("starred = refl"), stated("  -- pub list-same :")), (None, None));
+    assert_eq!(
+        calls("uint32_t mittenhelm_level(uint64_t key);\nenum mittenhelm_state { MITTENHELM_X = 0 }; f(1)"),
+        BTreeSet::from(["level"])
+    );
     assert_eq!(section("# A\n\n## B\n\nb\n\n## C\n\nc\n", "B"), "\nb\n");
 }
