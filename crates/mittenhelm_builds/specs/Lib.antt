@@ -1,2 +1,3 @@
 -- What the contracts of `mittenhelm_builds` cite.
 pub mod Words
+pub mod Header
