@@ -40,7 +40,7 @@ use Rattle.hosts.specs.HostRun.{Host, HostRun}
 use Rattle.hosts.specs.HostRun.HostRun.{started, told}
 use Rattle.hosts.specs.Hosts.{ReadBack, WrittenBack, EightWords, AsTold, IsABuild, InReach}
 use Rattle.hosts.specs.Hosts.{returned, HostsBuilding, HostsQueueOf64, dualIn, HostsReading, HostsFinished}
-use Rattle.hosts.specs.Hosts.{RefusedStart, RefusedDistance, Requests, StartRequests, DistanceRequests, Alike, BroughtBackLater, BroughtBackAnywhere}
+use Rattle.hosts.specs.Hosts.{RefusedStart, RefusedDistance, Requests, StartRequests, DistanceRequests, Alike, BroughtBackLater, GoesOnAsBefore, BroughtBackAnywhere}
 use Rattle.hosts.proofs.Handed.{StartSaid, start-said, Said, said, Asks, distance-asks, distance-ends, distance-refused, number-is, asks-nothing, nothing-asked}
 use Rattle.hosts.proofs.Handed.StartSaid.{declines, begins}
 use Rattle.hosts.proofs.Handed.Said.{refuses, asks, ends}
@@ -279,6 +279,17 @@ brought-back-later words d t before later = go (eqb (length words) 8)
         (cond (not b) (effect (reply 10 words later) t) (effectOf (distanceOf (stateOf words) d t) words later))
     go false = record { number = refl; words = refl; tables = refl; request = λ z _. absurd (omega (arith, z)) }
     go true = handed-alike words d t before later (distanceOf (stateOf words) d t .answer) (distanceOf (stateOf words) d t .tables) refl
+
+accepted-is : (x : Effect) (words : List ℕ) (t : Tables) → x .said .number ≡ 0 → x .said .words ≡ words → x .tables ≡ t
+    → x ≡ effect (reply 0 words (x .said .request)) t
+accepted-is x words t n w e = rw (← n, ← w, ← e) refl
+
+pub goes-on-as-before : GoesOnAsBefore
+goes-on-as-before host bound lent given words words' d t t' later request h e =
+    let a = brought-back-later words d t (host .places (suc (length given))) later in
+    told d h
+    (accepted-is _ words' t' (a .number ∙ ap (λ (x : Effect). x .said .number) e) (a .words ∙ ap (λ (x : Effect). x .said .words) e)
+    (a .tables ∙ ap (λ (x : Effect). x .tables) e))
 
 pub brought-back-anywhere : BroughtBackAnywhere
 brought-back-anywhere host other eight bound lent given words t h =

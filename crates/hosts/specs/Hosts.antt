@@ -1,7 +1,7 @@
 -- What holds for a host behind the C boundary: all that the demands say of builds and of finished ones. proofs/Hosts.antt proves each of these.
 use Prim.Native.Nat.{ℕ, _+_, _≤_, _<_}
 use mathlib.Core.Path.{_≡_}
-use mathlib.Core.List.{List}
+use mathlib.Core.List.{List, _∷_}
 use lib.ListN.{length, getD}
 use lib.Ieee.{Float}
 use Rattle.build.specs.declared.Request.{Request}
@@ -153,12 +153,19 @@ pub record Alike (a b : Effect) : Type 0 where
   pub tables : a .tables ≡ b .tables
   pub request : a .said .number ≡ 0 → (word (a .said .words) 3 ≡ 0 → ⊥) → a .said .request ≡ b .said .request
 
--- Later: words and tables alone settle what a distance does, whatever the request's places then hold.
+-- Later: words and tables alone settle what a distance does, whatever the request's places then hold,
 abbrev pub BroughtBackLater : Type 0
 BroughtBackLater =
     (words : List ℕ) (d : Float) (t : Tables) (before later : Request) → Alike (distanceEffect words d t before) (distanceEffect words d t later)
 
--- Anywhere: they are the same build of every other host, and so all the above holds of it there.
+-- and so the build goes on as before.
+abbrev pub GoesOnAsBefore : Type 0
+GoesOnAsBefore =
+    (host : Host) (bound : ℕ) (lent : Tables) (given : List Float) (words words' : List ℕ) (d : Float) (t t' : Tables) (later request : Request)
+    → HostRun host bound lent given words t
+    → distanceEffect words d t later ≡ effect (reply 0 words' request) t' → HostRun host bound lent (d ∷ given) words' t'
+
+-- Anywhere: words and tables are as well a build of any other host, so all the above holds of them there.
 abbrev pub BroughtBackAnywhere : Type 0
 BroughtBackAnywhere =
     (host other : Host) → length (other .words) ≡ 8
