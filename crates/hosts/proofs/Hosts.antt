@@ -2,6 +2,7 @@
 use Prim.Native.Nat.{ℕ, suc, _≤_, _<_}
 use mathlib.Core.Path.{_≡_, refl, sym, _∙_, ap, subst}
 use mathlib.Core.Bool.{Bool, true, false, cond, not}
+use mathlib.Core.Logic.{⊎-elim}
 use mathlib.Core.List.{List, [], _∷_}
 use native.Mathlib.Omega.{arith}
 use lib.Dec.{eqb, ltb}
@@ -17,7 +18,7 @@ use Rattle.build.specs.declared.Answer.{Answer}
 use Rattle.build.specs.declared.Answer.the-variants.{Ask, Finished, Refused}
 use Rattle.build.specs.Build.{Tables, Outcome, outcome, lengthsOf, requestOf, refusalOf, splitOf, distanceOf, startOf}
 use Rattle.build.proofs.Laws.{call-refused}
-use Rattle.tree.specs.Tree.{Tree}
+use Rattle.tree.specs.Tree.{Tree, Sound}
 use Rattle.vertices.specs.declared.ListAnswer.the-variants as list
 use Rattle.vertices.specs.Listing.{Lists, ListSays}
 use Rattle.dual.specs.declared.Dual.{Dual}
@@ -154,14 +155,17 @@ hosts-queue-of-64 host bound lent given eight low room leaves queue l =
     (wordsOf (r .0), r .1, reach host eight (r .2), words-told (r .0) .asked ∙ r .3)
 
 -- from what the calls on a tree answer to what they hand over
-module _ {D : ℕ} {tree : Tree} (h : Reading D tree) where
+module _ {D : ℕ} {tree : Tree} (sound : Sound tree) (h : Reading D tree) where
+  refused-12 : (start k : ℕ) (before left : Lists) → ListSays tree start before left (list.Refused k) → k ≡ 12
+  refused-12 start k before left (_, why) = ⊎-elim (λ x. absurd (x .0 sound)) (λ x. x .2) why
+
   listed : (start count was : ℕ) (before left : Lists) → HandsList tree start before left was 0 count → ListSays tree start before left (list.Count count)
   listed start count was before left (list.Count n, says, (_, e)) = subst (λ (m : ℕ). ListSays tree start before left (list.Count m)) (sym e) says
-  listed start count was before left (list.Refused k, says, (z, _)) = absurd (omega (arith, z, h .room start k before left says))
+  listed start count was before left (list.Refused k, says, (z, _)) = absurd (omega (arith, z, refused-12 start k before left says))
 
   full : (start count was k : ℕ) (before left : Lists) → HandsList tree start before left was k count → (k ≡ 0 → ⊥) → k ≡ 12
   full start count was k before left (list.Count n, says, (z, _)) some = absurd (some z)
-  full start count was k before left (list.Refused m, says, (z, _)) some = z ∙ h .room start m before left says
+  full start count was k before left (list.Refused m, says, (z, _)) some = z ∙ refused-12 start m before left says
 
   eight-entries : (v k : ℕ) (then out : Eight) (a : Dual) → LeafCell D tree v a → HandsEight (a .keys) (a .distances) (a .tried) then k out
       → (k ≡ 0) × LeafCell D tree v (dualIn out)
@@ -191,7 +195,7 @@ unfolding stateOf
 hosts-finished host bound lent given words t h done =
     let r = host-run h in
     let f = of-finished-builds bound lent given (stateOf words) t (r .0) done in
-    (f .0, f .1, hosts-reading (f .1))
+    (f .0, f .1, hosts-reading (f .0) (f .1))
 
 -- ---- what stands in a host's places
 
