@@ -8,7 +8,7 @@ use native.Mathlib.Omega.{arith}
 use lib.Dec.{eqb, ltb}
 use lib.ListN.{length, getD}
 use lib.Ieee.{Float, nan}
-use borrow.Author.Tests.{ltb-false}
+use borrow.Author.Tests.{le-ltb, ltb-false, eq-eqb}
 use Rattle.morton.specs.Level.{limit}
 use Rattle.morton.specs.Vertex.{sideOf}
 use Rattle.build.specs.declared.Lengths.{Lengths}
@@ -34,13 +34,13 @@ use Rattle.demands.proofs.Demands.{building, queue-of-64}
 use Rattle.demands.proofs.Reading.{of-finished-builds}
 use Rattle.mittenhelm_builds.specs.Words.{stateOf, wordsOf, Reply, reply, handOver, startReplies, Effect, effect, effectOf, distanceEffect}
 use Rattle.mittenhelm_builds.specs.Header.{Told}
-use Rattle.mittenhelm_builds.proofs.Words.{start-over, distance-over}
+use Rattle.mittenhelm_builds.proofs.Words.{start-deep, start-wordless, start-over, distance-wordless, distance-over}
 use Rattle.mittenhelm_builds.proofs.Header.{read-back, written-back, words-are-eight, words-told}
 use Rattle.mittenhelm_reading.specs.Reading.{Eight, HandsEight, HandsList}
 use Rattle.hosts.specs.HostRun.{Host, HostRun}
 use Rattle.hosts.specs.HostRun.HostRun.{started, told}
 use Rattle.hosts.specs.Hosts.{ReadBack, WrittenBack, EightWords, AsTold, IsABuild, InReach}
-use Rattle.hosts.specs.Hosts.{returned, HostsBuilding, HostsQueueOf64, dualIn, HostsReading, HostsFinished}
+use Rattle.hosts.specs.Hosts.{returned, HostsBuilding, HostsQueueOf64, dualIn, HostsReading, HostsFinished, StartReturns, DistanceReturns}
 use Rattle.hosts.specs.Hosts.{RefusedStart, RefusedDistance, Requests, StartRequests, DistanceRequests, Alike, BroughtBackLater, GoesOnAsBefore, BroughtBackAnywhere}
 use Rattle.hosts.proofs.Handed.{StartSaid, start-said, Said, said, Asks, distance-asks, distance-ends, distance-refused, number-is, asks-nothing, nothing-asked}
 use Rattle.hosts.proofs.Handed.StartSaid.{declines, begins}
@@ -196,6 +196,19 @@ hosts-finished host bound lent given words t h done =
     let r = host-run h in
     let f = of-finished-builds bound lent given (stateOf words) t (r .0) done in
     (f .0, f .1, hosts-reading (f .0) (f .1))
+
+-- ---- what is returned
+
+pub start-returns : StartReturns
+unfolding startReplies startOf handOver
+start-returns bound t words places = (
+  λ h. ap (λ (r : Reply). r .number) (sym (start-deep bound t words places h)),
+  λ h n. ap (λ (r : Reply). r .number) (sym (start-wordless bound t words places h n)),
+  λ h l. rw (le-ltb limit bound h, eq-eqb (length words) 8 l) refl,
+)
+
+pub distance-returns : DistanceReturns
+distance-returns words d t places = (λ n. ap (λ (x : Effect). x .said .number) (sym (distance-wordless words d t places n)), λ l. number-is words d t places l)
 
 -- ---- what stands in a host's places
 

@@ -6,7 +6,7 @@ use lib.ListN.{length, getD}
 use lib.Ieee.{Float}
 use Rattle.build.specs.declared.Request.{Request}
 use Rattle.build.specs.declared.State.{State}
-use Rattle.build.specs.Build.{Tables, finest, nodeRoom, lengthsOf, requestOf}
+use Rattle.build.specs.Build.{Tables, finest, nodeRoom, lengthsOf, requestOf, refusalOf, splitOf}
 use Rattle.tree.specs.Tree.{Tree, Sound}
 use Rattle.vertices.specs.Listing.{Lists}
 use Rattle.dual.specs.declared.Dual.{Dual}
@@ -112,6 +112,23 @@ HostsFinished =
     (host : Host) (bound : ℕ) (lent : Tables) (given : List Float) (words : List ℕ) (t : Tables)
     → HostRun host bound lent given words t → word words 3 ≡ 0
     → Sound (treeIn words t) × Reading (finest bound) (treeIn words t) × HostsReading (finest bound) (treeIn words t)
+
+-- ---- what is returned
+
+-- 5 for a bound above 15, then 10 where other than eight words have no room for a state; else 0, for an accepted start.
+abbrev pub StartReturns : Type 0
+StartReturns =
+    (bound : ℕ) (t : Tables) (words : List ℕ) (places : Request)
+    → (15 < bound → startReplies bound t words places .number ≡ 5)
+    × (bound ≤ 15 → (length words ≡ 8 → ⊥) → startReplies bound t words places .number ≡ 10)
+    × (bound ≤ 15 → length words ≡ 8 → startReplies bound t words places .number ≡ 0)
+
+-- 10 where other than eight words hold no state; else the build's number for no, 0 for an accepted distance.
+abbrev pub DistanceReturns : Type 0
+DistanceReturns =
+    (words : List ℕ) (d : Float) (t : Tables) (places : Request)
+    → ((length words ≡ 8 → ⊥) → returned words d t places ≡ 10)
+    × (length words ≡ 8 → returned words d t places ≡ refusalOf (stateOf words) (splitOf (stateOf words) d) t)
 
 -- ---- what stands in a host's places
 
