@@ -1,6 +1,6 @@
 -- A build's answer is handed over as its case says. Assumes nothing.
 use Prim.Native.Nat.{ℕ, _≤_, _<_}
-use mathlib.Core.Path.{_≡_, refl}
+use mathlib.Core.Path.{_≡_, refl, sym, ap}
 use mathlib.Core.List.{List, [], _∷_}
 use native.Mathlib.Omega.{arith}
 use lib.Ieee.{Float}
@@ -15,19 +15,25 @@ use Rattle.build.specs.Build.{Tables, Outcome, outcome, startOf, splitOf, dista
 use Rattle.build.proofs.Laws.{deep-refused}
 use Rattle.mittenhelm_builds.specs.Words.{stateOf, wordsOf, Reply, reply, handOver, startReplies, effect, effectOf, distanceEffect}
 
+-- a slice of eight is its eight words
+pub eight-are : (ws : List ℕ) → length ws ≡ 8
+    → (getD ws 0 0 ∷ getD ws 1 0 ∷ getD ws 2 0 ∷ getD ws 3 0 ∷ getD ws 4 0 ∷ getD ws 5 0 ∷ getD ws 6 0 ∷ getD ws 7 0 ∷ []) ≡ ws
+eight-are [] l = absurd (omega arith)
+eight-are (_ ∷ []) l = absurd (omega arith)
+eight-are (_ ∷ _ ∷ []) l = absurd (omega arith)
+eight-are (_ ∷ _ ∷ _ ∷ []) l = absurd (omega arith)
+eight-are (_ ∷ _ ∷ _ ∷ _ ∷ []) l = absurd (omega arith)
+eight-are (_ ∷ _ ∷ _ ∷ _ ∷ _ ∷ []) l = absurd (omega arith)
+eight-are (_ ∷ _ ∷ _ ∷ _ ∷ _ ∷ _ ∷ []) l = absurd (omega arith)
+eight-are (_ ∷ _ ∷ _ ∷ _ ∷ _ ∷ _ ∷ _ ∷ []) l = absurd (omega arith)
+eight-are (_ ∷ _ ∷ _ ∷ _ ∷ _ ∷ _ ∷ _ ∷ _ ∷ []) l = refl
+eight-are (_ ∷ _ ∷ _ ∷ _ ∷ _ ∷ _ ∷ _ ∷ _ ∷ _ ∷ _) l = absurd (omega arith)
+
 -- eight stores fill a slice of eight
 pub eight-words : (ws : List ℕ) (a b c d e f g h : ℕ) → length ws ≡ 8
     → set (set (set (set (set (set (set (set ws 0 a) 1 b) 2 c) 3 d) 4 e) 5 f) 6 g) 7 h ≡ (a ∷ b ∷ c ∷ d ∷ e ∷ f ∷ g ∷ h ∷ [])
-eight-words [] a b c d e f g h l = absurd (omega arith)
-eight-words (_ ∷ []) a b c d e f g h l = absurd (omega arith)
-eight-words (_ ∷ _ ∷ []) a b c d e f g h l = absurd (omega arith)
-eight-words (_ ∷ _ ∷ _ ∷ []) a b c d e f g h l = absurd (omega arith)
-eight-words (_ ∷ _ ∷ _ ∷ _ ∷ []) a b c d e f g h l = absurd (omega arith)
-eight-words (_ ∷ _ ∷ _ ∷ _ ∷ _ ∷ []) a b c d e f g h l = absurd (omega arith)
-eight-words (_ ∷ _ ∷ _ ∷ _ ∷ _ ∷ _ ∷ []) a b c d e f g h l = absurd (omega arith)
-eight-words (_ ∷ _ ∷ _ ∷ _ ∷ _ ∷ _ ∷ _ ∷ []) a b c d e f g h l = absurd (omega arith)
-eight-words (_ ∷ _ ∷ _ ∷ _ ∷ _ ∷ _ ∷ _ ∷ _ ∷ []) a b c d e f g h l = refl
-eight-words (_ ∷ _ ∷ _ ∷ _ ∷ _ ∷ _ ∷ _ ∷ _ ∷ _ ∷ _) a b c d e f g h l = absurd (omega arith)
+eight-words ws a b c d e f g h l =
+    ap (λ (w : List ℕ). set (set (set (set (set (set (set (set w 0 a) 1 b) 2 c) 3 d) 4 e) 5 f) 6 g) 7 h) (sym (eight-are ws l))
 
 pub over-ask : (a : Answer) (r : Request) (s : State) (words words' : List ℕ) (q : Request) → a ≡ Ask r s → words' ≡ wordsOf s
     → reply 0 words' r ≡ handOver a words q

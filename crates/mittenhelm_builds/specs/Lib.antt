@@ -1,2 +1,3 @@
--- What the contracts of `mittenhelm_builds` cite.
+-- What the contracts of `mittenhelm_builds` cite, and the order of the words as the header tells it.
 pub mod Words
+pub mod Header

@@ -1,0 +1,3 @@
+-- What holds for hosts, proved: read Hosts.
+pub mod Handed
+pub mod Hosts
