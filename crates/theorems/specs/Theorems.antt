@@ -17,6 +17,7 @@ use Rattle.tree.proofs.Climbing as climbing
 use Rattle.tree.proofs.One as tree
 use Rattle.geometry.specs.Grid.{liesIn, holders, volumes}
 use Rattle.geometry.specs.Listing.{Listed}
+use Rattle.build.specs.declared.Request.{Request}
 use Rattle.build.specs.declared.State.{State}
 use Rattle.build.specs.declared.Answer.the-variants.{Refused}
 use Rattle.build.specs.Build.{Tables, finest, nodeRoom, lengthsOf, centreOf, halfOf, distanceOf}
@@ -44,6 +45,10 @@ use Rattle.demands.proofs.Reading.{of-sound-trees, of-finished-builds}
 use Rattle.demands.proofs.Rooms as rooms
 use Rattle.demands.proofs.Most as most
 use Rattle.demands.proofs.Batches as batches
+use Rattle.mittenhelm_builds.specs.Words.{stateOf, wordsOf, reply, startReplies, effect, distanceEffect}
+use Rattle.hosts.specs.HostRun.{Host, HostRun, treeIn}
+use Rattle.hosts.specs.Hosts.{AfterEveryCall}
+use Rattle.hosts.proofs.Hosts as hosts
 
 -- ---- a build is whole at every step
 
@@ -95,6 +100,62 @@ module _ (bound : ℕ) (lent : Tables) (given : List Float) (s : State) (t : Tab
   -- A finished build is a sound tree.
   pub finished-sound : s .asked ≡ 0 → Sound (treeAfter s t)
   finished-sound done = of-finished-builds bound lent given s t run done .0
+
+-- ---- a host behind the C boundary
+
+-- What is written of a state is read back, in eight words.
+pub read-back : (s : State) → stateOf (wordsOf s) ≡ s
+read-back = hosts.state-read-back
+
+pub words-are-eight : (s : State) → length (wordsOf s) ≡ 8
+words-are-eight = hosts.eight-words
+
+-- What a host's calls do is a build as above, and each build is in its reach.
+pub is-a-build : (host : Host) (bound : ℕ) (lent : Tables) (given : List Float) (words : List ℕ) (t : Tables)
+    → HostRun host bound lent given words t → Run bound lent given (stateOf words) t
+is-a-build = hosts.is-a-build
+
+pub in-reach : (host : Host) → length (host .words) ≡ 8
+    → (bound : ℕ) (lent : Tables) (given : List Float) (s : State) (t : Tables)
+    → Run bound lent given s t → HostRun host bound lent given (wordsOf s) t
+in-reach = hosts.in-reach
+
+-- Word 1 counts the nodes, word 2 the leaves, and word 3 is 0 exactly once the build is finished: further distances are then refused with 9.
+module _ (host : Host) (bound : ℕ) (lent : Tables) (given : List Float) (words : List ℕ) (t : Tables) (run : HostRun host bound lent given words t) where
+  told : AfterEveryCall bound lent given words t
+  told = hosts.hosts-building host bound lent given words t run
+
+  pub word-of-nodes : getD words 1 0 ≡ length given
+  word-of-nodes = told .word-1
+
+  pub word-of-leaves : getD words 2 0 ≡ length (treeIn words t .leaves)
+  word-of-leaves = told .word-2
+
+  pub word-of-the-end : getD words 3 0 ≡ 0 → (d : Float) (places : Request) → distanceEffect words d t places .said .number ≡ 9
+  word-of-the-end = told .word-3-ends
+
+-- A refused call changes no word, no place of the request and no table.
+pub refused-start : (bound k : ℕ) (t : Tables) (words words' : List ℕ) (places request : Request)
+    → startReplies bound t words places ≡ reply k words' request → (k ≡ 0 → ⊥)
+    → (words' ≡ words) × (request ≡ places)
+refused-start = hosts.refused-start
+
+pub refused-distance : (k : ℕ) (d : Float) (t t' : Tables) (words words' : List ℕ) (places request : Request)
+    → distanceEffect words d t places ≡ effect (reply k words' request) t' → (k ≡ 0 → ⊥)
+    → (words' ≡ words) × (request ≡ places) × (t' ≡ t)
+refused-distance = hosts.refused-distance
+
+-- A copy of words and tables can be brought back later, whatever the places of the request hold then,
+pub brought-back-later : (host : Host) (bound : ℕ) (lent : Tables) (given : List Float) (words words' : List ℕ) (d : Float) (t t' : Tables) (later request : Request)
+    → HostRun host bound lent given words t
+    → distanceEffect words d t later ≡ effect (reply 0 words' request) t' → HostRun host bound lent (d ∷ given) words' t'
+brought-back-later = hosts.goes-on-as-before
+
+-- and anywhere.
+pub brought-back-anywhere : (host other : Host) → length (other .words) ≡ 8
+    → (bound : ℕ) (lent : Tables) (given : List Float) (words : List ℕ) (t : Tables)
+    → HostRun host bound lent given words t → HostRun other bound lent given words t
+brought-back-anywhere = hosts.brought-back-anywhere
 
 -- ---- which rooms are enough, and which never are
 
