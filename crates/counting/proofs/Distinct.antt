@@ -1,15 +1,15 @@
 -- How many vertices a list has, settled by the leaves: they are the different numbers that the leaves' corners give. Assumes nothing.
-use Prim.Native.Nat.{ℕ, zero, suc, _+_, _≤_, _<_}
-use mathlib.Core.Path.{_≡_, refl, sym, _∙_, ap, ap₂, subst}
+use Prim.Native.Nat.{ℕ, zero, suc, _≤_, _<_}
+use mathlib.Core.Path.{_≡_, refl, sym, _∙_, ap, subst}
 use mathlib.Core.Bool.{Bool, true, false, cond, _||_, false≢true}
 use mathlib.Core.Logic.{_⊎_, inl, inr, ⊎-elim}
-use mathlib.Core.List.{List, [], _∷_, _++_}
+use mathlib.Core.List.{List, [], _∷_}
 use native.Mathlib.Omega.{arith}
 use native.Mathlib.Decide.{decLt, ℕ-discrete}
 use lib.Dec.{eqb, ltb}
-use lib.ListN.{length, getD}
+use lib.ListN.{length}
 use borrow.Author.Tests.{ltb-true, ltb-false, eqb-true, eqb-false}
-use Rattle.tree.specs.Tree.{In, Ascending}
+use Rattle.tree.specs.Tree.{In}
 use Rattle.tree.proofs.Lists.{in-cast, in-none, in-head, in-tail, in-cases, in-left, in-right, in-append, has, has-true, has-false, Asc, asc-at, ascending-unique}
 use Rattle.geometry.specs.Listing.{given, Listed}
 use Rattle.counting.specs.Vertices.{cornersTo, cornersOf, among, different, vertexCount}

@@ -5,14 +5,14 @@ use mathlib.Core.Bool.{Bool, true, false, cond}
 use mathlib.Core.List.{List, [], _∷_}
 use native.Mathlib.Omega.{arith}
 use lib.Dec.{eqb, ltb}
-use lib.ListN.{length, take, replicate, length-replicate}
+use lib.ListN.{length, take, length-replicate}
 use lib.Ieee.{Float}
 use Rattle.morton.specs.Level.{limit}
 use Rattle.build.specs.declared.Request.{Request}
 use Rattle.build.specs.declared.State.{State}
 use Rattle.build.specs.declared.Answer.{Answer}
 use Rattle.build.specs.declared.Answer.the-variants.{Ask, Finished, Refused}
-use Rattle.build.specs.Build.{Tables, Outcome, outcome, lengthsOf, nodeRoom, items, queueOf, leavesOf, movedOf, refusalOf, splitOf, acceptOf, advanceOf, decideOf, distanceOf, startOf}
+use Rattle.build.specs.Build.{Tables, Outcome, outcome, lengthsOf, nodeRoom, items, movedOf, refusalOf, splitOf, acceptOf, advanceOf, decideOf, distanceOf, startOf}
 use Rattle.demands.specs.Run.{Run}
 use Rattle.demands.specs.Run.Run.{started, asked, finished}
 use Rattle.demands.proofs.Call.{finished-refused}

@@ -27,7 +27,7 @@ distancesIn [] = []
 
 -- ---- the build
 
--- Its tables hold 1,024 each.
+-- Its tables hold 1,024 each, zeros at first.
 abbrev pub zeros : List ℕ
 zeros = replicate 1024 0
 
@@ -45,7 +45,7 @@ unfoldable pub afterAll : List Float → Outcome → Outcome
 afterAll [] o = o
 afterAll (d ∷ ds) o = afterAll ds (nextOf (o .answer) (o .tables) d)
 
--- ---- the line
+-- ---- the line, in ASCII
 
 -- A number as decimals, at most so many: one below 10 is a digit, 48 being `0`; any other is a tenth of it, rounded down, and then its last digit.
 unfoldable pub decimalTo : ℕ → ℕ → List ℕ
@@ -87,7 +87,7 @@ lineFor (Refused k) t = refusedLine k
 abbrev pub lineAt : Outcome → List ℕ
 lineAt o = lineFor (o .answer) (o .tables)
 
--- One bound byte, then distances.
+-- One bound byte, then distances; `short` where there is no byte.
 unfoldable pub lineOf : List ℕ → List ℕ
 lineOf [] = shortLine
 lineOf (bound ∷ bytes) = lineAt (afterAll (distancesIn bytes) (outcome (startOf bound lent) lent))

@@ -1,10 +1,10 @@
 -- What the private steps of `counting` leave: a text that is written byte after byte, and the tree of a finished build. Assumes nothing.
-use Prim.Native.Nat.{ℕ, _+_, _≤_, _<_}
+use Prim.Native.Nat.{ℕ, _+_}
 use mathlib.Core.Path.{_≡_}
 use mathlib.Core.Bool.{cond}
 use mathlib.Core.List.{List, [], _∷_}
 use lib.Dec.{ltb}
-use lib.ListN.{set, take, replicate}
+use lib.ListN.{set, replicate}
 use lib.Ieee.{Float}
 use Rattle.build.specs.declared.State.{State}
 use Rattle.build.specs.Build.{Tables, tablesOf}
