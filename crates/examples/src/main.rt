@@ -1,4 +1,5 @@
-// Document 01's examples that are run and not proved, a line for each: what is given, and whether it gives what the document says.
+// Document 01's examples that are run and not proved, a line for each: what is given, and whether it gives what the document says; then what the
+// program `counts` prints for some inputs.
 use build::Answer;
 use dual::Tried;
 use libc::STDOUT_FILENO;
@@ -8,6 +9,7 @@ use morton::KeyAnswer;
 use morton::SizeAnswer;
 use tree::Lookup;
 use vertices::ListAnswer;
+ghost use Prim.Native.Nat.{_≤_};
 
 fn say(example: &[u8], holds: bool) {
     io::write_all(STDOUT_FILENO, example);
@@ -288,6 +290,157 @@ fn say_of_81() {
     say_of_tree(&keys, &distances, &leaves);
 }
 
+// ---- the program `counts`
+
+// Input for it: a bound, and distances of four bytes that are all the same but for zeros at the places from `first` to before `end`; at each fifth of these
+// alone, if so said.
+struct Given {
+    bound: u8,
+    first: usize,
+    end: usize,
+    fifth: bool,
+    other: [u8; 4],
+}
+
+fn is_zero(given: Given, place: usize) -> bool {
+    if place < given.first {
+        return false;
+    }
+    if given.end <= place {
+        return false;
+    }
+    if given.fifth {
+        return (place - given.first) % 5 == 0;
+    }
+    true
+}
+
+fn byte_of(given: Given, i: usize) -> u8 {
+    if i == 0 {
+        return given.bound;
+    }
+    if is_zero(given, (i - 1) / 4) {
+        return 0;
+    }
+    let other = given.other;
+    other[(i - 1) % 4]
+}
+
+fn fill(given: Given, input: &mut [u8]) {
+    let mut i = 0;
+    while i < input.len() {
+        input[i] = byte_of(given, i);
+        i += 1;
+    }
+}
+
+// What it prints for the first bytes of such an input.
+fn show(example: &[u8], given: Given, length: usize)
+    requires { ⌜ length ≤ 4200 ⌝ }
+{
+    let mut input = [0u8; 4200];
+    fill(given, &mut input);
+    let text = counting::line(&input[..length]);
+    let bytes = text.bytes;
+    let n = text.length;
+    io::write_all(STDOUT_FILENO, example);
+    io::write_all(STDOUT_FILENO, b": ");
+    io::write_all(STDOUT_FILENO, &bytes[..n]);
+}
+
+// 1.0 but for zeros from one place to before another.
+fn zeros(bound: u8, first: usize, end: usize) -> Given {
+    Given {
+        bound: bound,
+        first: first,
+        end: end,
+        fifth: false,
+        other: [0, 0, 0x80, 0x3f],
+    }
+}
+
+fn ones(bound: u8) -> Given {
+    zeros(bound, 0, 0)
+}
+
+fn fifths(end: usize) -> Given {
+    Given {
+        bound: 15,
+        first: 9,
+        end: end,
+        fifth: true,
+        other: [0, 0, 0x80, 0x3f],
+    }
+}
+
+fn show_ends() {
+    show(b"counts, nothing", ones(2), 0);
+    show(b"counts, byte 2", ones(2), 1);
+    show(b"counts, byte 16", ones(16), 1);
+    show(b"counts, byte 2, 73 times 1.0", ones(2), 293);
+    show(b"counts, that without its last byte", ones(2), 292);
+    show(b"counts, that with 9 bytes more", ones(2), 302);
+}
+
+fn show_distances() {
+    show(b"counts, byte 3, 73 times 1.0", ones(3), 293);
+    let reversed = Given {
+        bound: 3,
+        first: 0,
+        end: 0,
+        fifth: false,
+        other: [0x3f, 0x80, 0, 0],
+    };
+    show(b"counts, byte 3, 585 times 3f 80 00 00", reversed, 2341);
+    show(
+        b"counts, byte 3, 0.0 for key 64, else 1.0",
+        zeros(3, 9, 10),
+        325,
+    );
+    let no_numbers = Given {
+        bound: 3,
+        first: 9,
+        end: 10,
+        fifth: false,
+        other: [1, 0, 0x80, 0x7f],
+    };
+    show(b"counts, byte 3, 0.0 for key 64, else NaN", no_numbers, 325);
+}
+
+fn show_rooms() {
+    show(
+        b"counts, byte 4, 89 times 0.0, then 1.0",
+        zeros(4, 0, 89),
+        4101,
+    );
+    show(b"counts, byte 4, 0.0", zeros(4, 0, 1025), 4101);
+    show(
+        b"counts, byte 4, 128 times 0.0, then 1.0 up to 1,024",
+        zeros(4, 0, 128),
+        4097,
+    );
+    show(
+        b"counts, byte 4, 128 times 0.0, then 1.0 up to 1,025",
+        zeros(4, 0, 128),
+        4101,
+    );
+    show(
+        b"counts, byte 15, 0.0 for each fifth from place 9 to 324, else 1.0",
+        fifths(325),
+        4101,
+    );
+    show(
+        b"counts, byte 15, 0.0 for each fifth from place 9 to 329, else 1.0",
+        fifths(330),
+        4101,
+    );
+    show(
+        b"counts, byte 15, 0.0 for each fifth from place 9 to 334, else 1.0",
+        fifths(335),
+        4101,
+    );
+}
+
 fn main() {
     say(
         b"centre of 9 is (0.75, 0.25, 0.25)",
@@ -321,4 +474,7 @@ fn main() {
     );
     say_of_73();
     say_of_81();
+    show_ends();
+    show_distances();
+    show_rooms();
 }

@@ -1,0 +1,38 @@
+-- `refused` meets its contract. Assumes nothing.
+use Rattle.counting.proofs.Texts.{writes-refused}
+use borrow.Author.Needs.{needs}
+use Rattle.counting.proofs.refused.Statement.{statement}
+use Rattle.counting.proofs.refused.Tie as tie
+
+empty-requires : tie.Need-empty-requires
+empty-requires c κs = search needs
+
+slice-aggregate-put-all : tie.Need-slice-aggregate-put-all
+slice-aggregate-put-all c = search needs
+
+put-all-requires : tie.Need-put-all-requires
+put-all-requires c κs = search needs
+
+put-decimal-requires : tie.Need-put-decimal-requires
+put-decimal-requires c κs = search needs
+
+slice-aggregate-put-all-2 : tie.Need-slice-aggregate-put-all-2
+slice-aggregate-put-all-2 c = search needs
+
+put-all-requires-2 : tie.Need-put-all-requires-2
+put-all-requires-2 c κs = search needs
+
+returns : tie.Need-returns
+returns c = writes-refused _ (c .before .before .before .before .before .empty .ensures) (c .before .before .before .put-all .ensures) (c .before .before .put-decimal .ensures) (c .put-all2 .ensures)
+
+pub refused-spec : {M : Type 1} → statement M
+refused-spec =
+    tie.close
+    (tie.spec
+    empty-requires
+    slice-aggregate-put-all
+    put-all-requires
+    put-decimal-requires
+    slice-aggregate-put-all-2
+    put-all-requires-2
+    returns)
