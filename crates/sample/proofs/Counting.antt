@@ -21,3 +21,7 @@ pub agreed : (t : Tally) (op n : ℕ) (same : Bool)
     → not same ≡ false → op < 23
     → _≡_ {A = Tally} (record { agree = set (t .agree) op n; differ = t .differ }) (countedOf t op same)
 agreed t op n same e h l = rw (not-false same h, lt-ltb op 23 l, e) refl
+
+-- a line that differs raises the one count, and none of those that agree
+pub differs : (t : Tally) (op : ℕ) → (countedOf t op false .differ ≡ (t .differ + 1) % 2 ^ 64) × (countedOf t op false .agree ≡ t .agree)
+differs t op = (refl, refl)
