@@ -1,5 +1,7 @@
 // Document 01's examples that are run and not proved, a line for each: what is given, and whether it gives what the document says.
 use build::Answer;
+use dual::Dual;
+use dual::SlabAnswer;
 use dual::Tried;
 use libc::STDOUT_FILENO;
 use morton::CentreAnswer;
@@ -244,6 +246,37 @@ fn meet(
     }
 }
 
+fn all_zero(eight: [f32; 8]) -> bool {
+    let mut i = 0;
+    while i < 8 {
+        if eight[i] != 0.0 {
+            return false;
+        }
+        i += 1;
+    }
+    true
+}
+
+// A refused dual cell, which has nothing in its arrays.
+fn is_empty(cell: Dual, number: u32) -> bool {
+    let found = cell.keys;
+    let theirs = cell.distances;
+    let answer = cell.tried;
+    match answer {
+        Tried::Keys(_) => false,
+        Tried::Refused(k) => k == number && same_eight(found, [0u64; 8]) && all_zero(theirs),
+    }
+}
+
+// The slab of the vertex at corner 7 of a cell of level 3.
+fn lies_in(key: u64, exponent: u32, slab: u32) -> bool {
+    let answer = dual::slab(far_corner(key), 3, exponent);
+    match answer {
+        SlabAnswer::Is(n) => n == slab,
+        SlabAnswer::Refused(_) => false,
+    }
+}
+
 fn say_of_tree(keys: &[u64], distances: &[f32], leaves: &[u64]) {
     say(b"that tree is sound", tree::sound(keys, distances, leaves));
     say(
@@ -259,6 +292,10 @@ fn say_of_tree(keys: &[u64], distances: &[f32], leaves: &[u64]) {
     say(
         b"that tree, vertex of 512, corner 7, level 3: 519 down to 512; 8 tried",
         meet(keys, distances, leaves, 512, inner, 8),
+    );
+    say(
+        b"that tree, 0 for a vertex: 4, and nothing in the arrays",
+        is_empty(dual::dual_cell(keys, distances, leaves, 0, 3), 4),
     );
 }
 
@@ -321,4 +358,9 @@ fn main() {
     );
     say_of_73();
     say_of_81();
+    // Corner 7 of 816 lies at 1 on x, 3 on y and 7 on z, of 8.
+    say(
+        b"vertex of 816, corner 7, level 3: slab 7 of 8, 3 of 4, 0 of 1",
+        lies_in(816, 3, 7) && lies_in(816, 2, 3) && lies_in(816, 0, 0),
+    );
 }
