@@ -41,10 +41,20 @@ fn is_split(key: u64, bound: u32, distance: f32) -> bool {
     morton::should_refine(level, bound, distance)
 }
 
-// A build in which one key has a distance of its own, and every other 1.0.
+// A build in which one key has a distance of its own, and every other the same.
 struct Field {
     key: u64,
     there: f32,
+    elsewhere: f32,
+}
+
+// 1.0 everywhere.
+fn far() -> Field {
+    Field {
+        key: 1,
+        there: 1.0,
+        elsewhere: 1.0,
+    }
 }
 
 // The last answer of a build, and how many distances were given for it.
@@ -54,7 +64,11 @@ struct Trial {
 }
 
 fn distance_at(field: Field, key: u64) -> f32 {
-    if key == field.key { field.there } else { 1.0 }
+    if key == field.key {
+        field.there
+    } else {
+        field.elsewhere
+    }
 }
 
 // One distance more where a cell is asked for.
@@ -88,10 +102,11 @@ fn give(
     }
 }
 
-// A build until it is finished or refused; 100 distances are enough for either.
+// A build until it is finished or refused, by so many distances at most.
 fn run(
     bound: u32,
     field: Field,
+    most: u32,
     keys: &mut [u64],
     distances: &mut [f32],
     leaves: &mut [u64],
@@ -101,7 +116,7 @@ fn run(
         answer: build::start(bound, keys, distances, leaves, queue),
         given: 0,
     };
-    let mut left: u32 = 100;
+    let mut left = most;
     while 0 < left {
         let next = give(t, field, keys, distances, leaves, queue);
         t = next;
@@ -115,7 +130,15 @@ fn built(bound: u32, field: Field, queue: &mut [u64]) -> Trial {
     let mut keys = [0u64; 100];
     let mut distances = [0.0f32; 100];
     let mut leaves = [0u64; 100];
-    run(bound, field, &mut keys, &mut distances, &mut leaves, queue)
+    run(
+        bound,
+        field,
+        100,
+        &mut keys,
+        &mut distances,
+        &mut leaves,
+        queue,
+    )
 }
 
 // A finished build was given a distance for each node.
@@ -140,7 +163,15 @@ fn is_refused(t: Trial, number: u32, given: u64) -> bool {
 fn finishes(bound: u32, key: u64, there: f32, nodes: usize, leaves: usize) -> bool {
     let mut queue = [0u64; 100];
     is_finished(
-        built(bound, Field { key, there }, &mut queue),
+        built(
+            bound,
+            Field {
+                key,
+                there,
+                elsewhere: 1.0,
+            },
+            &mut queue,
+        ),
         nodes,
         leaves,
     )
@@ -148,14 +179,59 @@ fn finishes(bound: u32, key: u64, there: f32, nodes: usize, leaves: usize) -> bo
 
 fn finishes_with_64() -> bool {
     let mut queue = [0u64; 64];
-    let whole = Field { key: 1, there: 1.0 };
+    let whole = far();
     is_finished(built(2, whole, &mut queue), 73, 64)
 }
 
 fn is_refused_with_63() -> bool {
     let mut queue = [0u64; 63];
-    let whole = Field { key: 1, there: 1.0 };
+    let whole = far();
     is_refused(built(2, whole, &mut queue), 8, 9)
+}
+
+// No build has more than 4,096 nodes, however long its tables are: every cell of bound 4 is near, 4,681 in all, and tables of 4,200 are lent.
+fn is_refused_past_4096() -> bool {
+    let mut keys = [0u64; 4200];
+    let mut distances = [0.0f32; 4200];
+    let mut leaves = [0u64; 4200];
+    let mut queue = [0u64; 4200];
+    let near = Field {
+        key: 1,
+        there: 0.0,
+        elsewhere: 0.0,
+    };
+    let t = run(
+        4,
+        near,
+        5000,
+        &mut keys,
+        &mut distances,
+        &mut leaves,
+        &mut queue,
+    );
+    is_refused(t, 6, 4097)
+}
+
+// A key table that has become shorter since the start.
+fn is_refused_elsewhere() -> bool {
+    let mut keys = [0u64; 73];
+    let mut distances = [0.0f32; 73];
+    let mut leaves = [0u64; 64];
+    let mut queue = [0u64; 64];
+    let answer = build::start(2, &keys, &distances, &leaves, &queue);
+    let t = Trial {
+        answer: answer,
+        given: 0,
+    };
+    let next = give(
+        t,
+        far(),
+        &mut keys[..72],
+        &mut distances,
+        &mut leaves,
+        &mut queue,
+    );
+    is_refused(next, 10, 1)
 }
 
 // ---- reading a finished tree
@@ -180,7 +256,7 @@ fn grows(
     count: usize,
 ) -> bool {
     let mut queue = [0u64; 100];
-    let t = run(bound, field, keys, distances, leaves, &mut queue);
+    let t = run(bound, field, 100, keys, distances, leaves, &mut queue);
     if is_finished(t, keys.len(), leaves.len()) {
         lists(keys, distances, leaves, count)
     } else {
@@ -303,7 +379,7 @@ fn say_of_73() {
     let mut keys = [0u64; 73];
     let mut distances = [0.0f32; 73];
     let mut leaves = [0u64; 64];
-    let whole = Field { key: 1, there: 1.0 };
+    let whole = far();
     say(
         b"bound 2, 73 times 1.0: 73 nodes, 64 leaves, 27 vertices",
         grows(2, whole, &mut keys, &mut distances, &mut leaves, 27),
@@ -317,12 +393,24 @@ fn say_of_81() {
     let first = Field {
         key: 64,
         there: 0.0,
+        elsewhere: 1.0,
     };
     say(
         b"bound 3, 0.0 for key 64, else 1.0: 81 nodes, 71 leaves, 34 vertices",
         grows(3, first, &mut keys, &mut distances, &mut leaves, 34),
     );
     say_of_tree(&keys, &distances, &leaves);
+    say(
+        b"that tree, one distance too many: not sound",
+        !tree::sound(&keys, &[0.0f32; 82], &leaves),
+    );
+    let least = leaves[0];
+    leaves[0] = leaves[1];
+    leaves[1] = least;
+    say(
+        b"that tree, two leaves exchanged: not sound",
+        !tree::sound(&keys, &distances, &leaves),
+    );
 }
 
 fn main() {
@@ -355,6 +443,14 @@ fn main() {
     say(
         b"bound 2, queue 63: 8 at the ninth distance",
         is_refused_with_63(),
+    );
+    say(
+        b"bound 2, the key table shorter than at the start: 10 at the first distance",
+        is_refused_elsewhere(),
+    );
+    say(
+        b"bound 4, 0.0 throughout, tables of 4,200: 6 at the 4,097th distance",
+        is_refused_past_4096(),
     );
     say_of_73();
     say_of_81();
