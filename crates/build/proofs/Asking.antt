@@ -2,11 +2,14 @@
 use Prim.Native.Nat.{ℕ, _+_, _*_, _^_}
 use mathlib.Core.Path.{_≡_, subst}
 use lib.Ieee.{Float}
+use mathlib.Core.Bool.{true}
 use Rattle.morton.specs.declared.Extent.{Extent}
-use Rattle.morton.specs.Answers.{OnAxis, ExtentSays}
+use Rattle.morton.specs.declared.SizeAnswer.the-variants as size
+use Rattle.morton.specs.declared.CentreAnswer.the-variants as centre
+use Rattle.morton.specs.Answers.{OnAxis, HalfSizeSays, CentreSays, ExtentSays}
 use Rattle.morton.specs.Exact.{Exactly}
 use Rattle.morton.specs.Field.{coord}
-use Rattle.morton.specs.Level.{level}
+use Rattle.morton.specs.Level.{level, isCell}
 use Rattle.morton.proofs.Fields.{coord-lt}
 use Rattle.morton.proofs.Levels.{level-le}
 use Rattle.morton.proofs.Sizes.{half-exactly, centre-exactly, centre-is, half-is}
@@ -34,3 +37,9 @@ pub centre-means : (key a : ℕ) → Exactly (centreOf key a) (2 * coord (level 
 centre-means key a =
     let e = centre-exactly (coord (level key) key a) (level key) (halfOf key) (level-le key) (coord-lt (level key) key a) (half-means key) in
     subst (λ (x : Float). Exactly x (2 * coord (level key) key a + 1) (2 ^ (level key + 1))) (on-axis key a _ e) e
+
+-- a request carries what `centre` and `half_size` answer
+pub request-means : (key : ℕ) → isCell key ≡ true
+    → CentreSays key (centre.Is (record { x = requestOf key .x; y = requestOf key .y; z = requestOf key .z })) × HalfSizeSays key (size.Is (requestOf key .half))
+unfolding requestOf
+request-means key e = ((e, (centre-means key 0, centre-means key 1, centre-means key 2)), (e, half-means key))

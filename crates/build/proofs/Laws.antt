@@ -1,13 +1,17 @@
 -- What a state that fits knows, and what an accepted call stands on. Assumes nothing.
 use Prim.Native.Nat.{ℕ, _+_, _-_, _*_, _^_, _≤_, _<_}
-use mathlib.Core.Path.{_≡_, refl, sym, _∙_, subst}
+use mathlib.Core.Path.{_≡_, refl, sym, ap, _∙_, subst}
 use mathlib.Core.Bool.{Bool, true, false, cond, _||_, _&&_, not}
+use mathlib.Core.Logic.{_⊎_, inl, inr}
+use native.Mathlib.Nat.{zero-mul}
+use native.Mathlib.Decide.{decLt}
 use native.Mathlib.Omega.{arith}
 use lib.Dec.{eqb, leb, ltb}
-use borrow.Author.Tests.{not-false, eqb-true, eqb-false, leb-true, ltb-false, le-leb, lt-leb, eq-eqb, ne-eqb}
-use lib.Ieee.{Float}
+use borrow.Author.Tests.{not-false, eqb-true, eqb-false, leb-true, ltb-false, le-leb, lt-leb, lt-ltb, le-ltb, eq-eqb, ne-eqb}
+use lib.IntN.{ℤ}
+use lib.Ieee.{Float, fin, up, down}
 use Rattle.morton.specs.Level.{Cell, deepest, limit, level, isCell}
-use Rattle.morton.specs.Split.{splits}
+use Rattle.morton.specs.Split.{atMost, near, splits}
 use Rattle.morton.proofs.Levels.{level-le, and-true, is-cell, cell-is, cell-level, cell-lt}
 use Rattle.build.specs.declared.Answer.{Answer}
 use Rattle.build.specs.declared.Answer.the-variants.{Refused}
@@ -33,6 +37,33 @@ cell-short top k l h = let p = cell-to top k h in let q = cell-lt (level k) limi
 
 pub split-is : (r : Bool) (L key bound : ℕ) (d : Float) → L ≡ level key → r ≡ (leb L deepest && splits L bound d) → r ≡ splits (level key) bound d
 split-is r L key bound d e h = h ∙ rw (e, le-leb (level key) deepest (level-le key)) refl
+
+-- ---- the finest grid, by the split rule: the distance 0 splits exactly the cells above it
+
+zero-near : (L : ℕ) (e : ℤ) → near L (fin false 0 e) ≡ true
+unfolding atMost
+zero-near L e = below (up e) (2 ^ (L + 1) * 2 ^ 23) (1 * 14529495 * down e)
+  where
+    below : (x y z : ℕ) → leb (0 * x * y) z ≡ true
+    below x y z = le-leb (0 * x * y) z (omega (arith, ap (λ (u : ℕ). u * y) (zero-mul x), zero-mul y))
+
+above-grid : (L bound : ℕ) → (L < 2) ⊎ (L < bound) → L < finest bound
+unfolding finest
+above-grid L bound (inl h) = omega arith
+above-grid L bound (inr h) = omega arith
+
+on-grid : (L bound : ℕ) → 2 ≤ L → bound ≤ L → finest bound ≤ L
+unfolding finest
+on-grid L bound h g = omega arith
+
+pub zero-splits : (L bound : ℕ) (e : ℤ) → splits L bound (fin false 0 e) ≡ ltb L (finest bound)
+zero-splits L bound e = go (decLt L 2) (decLt L bound)
+  where
+    go : Dec (L < 2) → Dec (L < bound) → splits L bound (fin false 0 e) ≡ ltb L (finest bound)
+    go (yes p) q = rw (lt-ltb L 2 p, lt-ltb L (finest bound) (above-grid L bound (inl p))) refl
+    go (no p) (yes q) = rw (le-ltb L 2 (omega arith), lt-ltb L bound q, zero-near L e, lt-ltb L (finest bound) (above-grid L bound (inr q))) refl
+    go (no p) (no q) =
+        rw (le-ltb L 2 (omega arith), le-ltb L bound (omega arith), le-ltb L (finest bound) (on-grid L bound (omega arith) (omega arith))) refl
 
 -- ---- what the tests of a state say
 

@@ -8,6 +8,7 @@ pub mod Call
 pub mod Trace
 pub mod Fits
 pub mod Queue
+pub mod Forged
 pub mod Soundness
 pub mod Demands
 pub mod Reading

@@ -1,6 +1,8 @@
 // Document 01's examples that are run and not proved, a line for each: what is given, and whether it gives what the document says; then what the
 // program `counts` prints for some inputs.
 use build::Answer;
+use dual::Dual;
+use dual::SlabAnswer;
 use dual::Tried;
 use libc::STDOUT_FILENO;
 use morton::CentreAnswer;
@@ -41,10 +43,20 @@ fn is_split(key: u64, bound: u32, distance: f32) -> bool {
     morton::should_refine(level, bound, distance)
 }
 
-// A build in which one key has a distance of its own, and every other 1.0.
+// A build in which one key has a distance of its own, and every other the same.
 struct Field {
     key: u64,
     there: f32,
+    elsewhere: f32,
+}
+
+// 1.0 everywhere.
+fn far() -> Field {
+    Field {
+        key: 1,
+        there: 1.0,
+        elsewhere: 1.0,
+    }
 }
 
 // The last answer of a build, and how many distances were given for it.
@@ -54,7 +66,11 @@ struct Trial {
 }
 
 fn distance_at(field: Field, key: u64) -> f32 {
-    if key == field.key { field.there } else { 1.0 }
+    if key == field.key {
+        field.there
+    } else {
+        field.elsewhere
+    }
 }
 
 // One distance more where a cell is asked for.
@@ -88,10 +104,11 @@ fn give(
     }
 }
 
-// A build until it is finished or refused; 100 distances are enough for either.
+// A build until it is finished or refused, by so many distances at most.
 fn run(
     bound: u32,
     field: Field,
+    most: u32,
     keys: &mut [u64],
     distances: &mut [f32],
     leaves: &mut [u64],
@@ -101,7 +118,7 @@ fn run(
         answer: build::start(bound, keys, distances, leaves, queue),
         given: 0,
     };
-    let mut left: u32 = 100;
+    let mut left = most;
     while 0 < left {
         let next = give(t, field, keys, distances, leaves, queue);
         t = next;
@@ -115,7 +132,15 @@ fn built(bound: u32, field: Field, queue: &mut [u64]) -> Trial {
     let mut keys = [0u64; 100];
     let mut distances = [0.0f32; 100];
     let mut leaves = [0u64; 100];
-    run(bound, field, &mut keys, &mut distances, &mut leaves, queue)
+    run(
+        bound,
+        field,
+        100,
+        &mut keys,
+        &mut distances,
+        &mut leaves,
+        queue,
+    )
 }
 
 // A finished build was given a distance for each node.
@@ -140,7 +165,15 @@ fn is_refused(t: Trial, number: u32, given: u64) -> bool {
 fn finishes(bound: u32, key: u64, there: f32, nodes: usize, leaves: usize) -> bool {
     let mut queue = [0u64; 100];
     is_finished(
-        built(bound, Field { key, there }, &mut queue),
+        built(
+            bound,
+            Field {
+                key,
+                there,
+                elsewhere: 1.0,
+            },
+            &mut queue,
+        ),
         nodes,
         leaves,
     )
@@ -148,14 +181,59 @@ fn finishes(bound: u32, key: u64, there: f32, nodes: usize, leaves: usize) -> bo
 
 fn finishes_with_64() -> bool {
     let mut queue = [0u64; 64];
-    let whole = Field { key: 1, there: 1.0 };
+    let whole = far();
     is_finished(built(2, whole, &mut queue), 73, 64)
 }
 
 fn is_refused_with_63() -> bool {
     let mut queue = [0u64; 63];
-    let whole = Field { key: 1, there: 1.0 };
+    let whole = far();
     is_refused(built(2, whole, &mut queue), 8, 9)
+}
+
+// No build has more than 4,096 nodes, however long its tables are: every cell of bound 4 is near, 4,681 in all, and tables of 4,200 are lent.
+fn is_refused_past_4096() -> bool {
+    let mut keys = [0u64; 4200];
+    let mut distances = [0.0f32; 4200];
+    let mut leaves = [0u64; 4200];
+    let mut queue = [0u64; 4200];
+    let near = Field {
+        key: 1,
+        there: 0.0,
+        elsewhere: 0.0,
+    };
+    let t = run(
+        4,
+        near,
+        5000,
+        &mut keys,
+        &mut distances,
+        &mut leaves,
+        &mut queue,
+    );
+    is_refused(t, 6, 4097)
+}
+
+// A key table that has become shorter since the start.
+fn is_refused_elsewhere() -> bool {
+    let mut keys = [0u64; 73];
+    let mut distances = [0.0f32; 73];
+    let mut leaves = [0u64; 64];
+    let mut queue = [0u64; 64];
+    let answer = build::start(2, &keys, &distances, &leaves, &queue);
+    let t = Trial {
+        answer: answer,
+        given: 0,
+    };
+    let next = give(
+        t,
+        far(),
+        &mut keys[..72],
+        &mut distances,
+        &mut leaves,
+        &mut queue,
+    );
+    is_refused(next, 10, 1)
 }
 
 // ---- reading a finished tree
@@ -180,7 +258,7 @@ fn grows(
     count: usize,
 ) -> bool {
     let mut queue = [0u64; 100];
-    let t = run(bound, field, keys, distances, leaves, &mut queue);
+    let t = run(bound, field, 100, keys, distances, leaves, &mut queue);
     if is_finished(t, keys.len(), leaves.len()) {
         lists(keys, distances, leaves, count)
     } else {
@@ -246,6 +324,37 @@ fn meet(
     }
 }
 
+fn all_zero(eight: [f32; 8]) -> bool {
+    let mut i = 0;
+    while i < 8 {
+        if eight[i] != 0.0 {
+            return false;
+        }
+        i += 1;
+    }
+    true
+}
+
+// A refused dual cell, which has nothing in its arrays.
+fn is_empty(cell: Dual, number: u32) -> bool {
+    let found = cell.keys;
+    let theirs = cell.distances;
+    let answer = cell.tried;
+    match answer {
+        Tried::Keys(_) => false,
+        Tried::Refused(k) => k == number && same_eight(found, [0u64; 8]) && all_zero(theirs),
+    }
+}
+
+// The slab of the vertex at corner 7 of a cell of level 3.
+fn lies_in(key: u64, exponent: u32, slab: u32) -> bool {
+    let answer = dual::slab(far_corner(key), 3, exponent);
+    match answer {
+        SlabAnswer::Is(n) => n == slab,
+        SlabAnswer::Refused(_) => false,
+    }
+}
+
 fn say_of_tree(keys: &[u64], distances: &[f32], leaves: &[u64]) {
     say(b"that tree is sound", tree::sound(keys, distances, leaves));
     say(
@@ -262,13 +371,17 @@ fn say_of_tree(keys: &[u64], distances: &[f32], leaves: &[u64]) {
         b"that tree, vertex of 512, corner 7, level 3: 519 down to 512; 8 tried",
         meet(keys, distances, leaves, 512, inner, 8),
     );
+    say(
+        b"that tree, 0 for a vertex: 4, and nothing in the arrays",
+        is_empty(dual::dual_cell(keys, distances, leaves, 0, 3), 4),
+    );
 }
 
 fn say_of_73() {
     let mut keys = [0u64; 73];
     let mut distances = [0.0f32; 73];
     let mut leaves = [0u64; 64];
-    let whole = Field { key: 1, there: 1.0 };
+    let whole = far();
     say(
         b"bound 2, 73 times 1.0: 73 nodes, 64 leaves, 27 vertices",
         grows(2, whole, &mut keys, &mut distances, &mut leaves, 27),
@@ -282,12 +395,24 @@ fn say_of_81() {
     let first = Field {
         key: 64,
         there: 0.0,
+        elsewhere: 1.0,
     };
     say(
         b"bound 3, 0.0 for key 64, else 1.0: 81 nodes, 71 leaves, 34 vertices",
         grows(3, first, &mut keys, &mut distances, &mut leaves, 34),
     );
     say_of_tree(&keys, &distances, &leaves);
+    say(
+        b"that tree, one distance too many: not sound",
+        !tree::sound(&keys, &[0.0f32; 82], &leaves),
+    );
+    let least = leaves[0];
+    leaves[0] = leaves[1];
+    leaves[1] = least;
+    say(
+        b"that tree, two leaves exchanged: not sound",
+        !tree::sound(&keys, &distances, &leaves),
+    );
 }
 
 // ---- the program `counts`
@@ -472,8 +597,21 @@ fn main() {
         b"bound 2, queue 63: 8 at the ninth distance",
         is_refused_with_63(),
     );
+    say(
+        b"bound 2, the key table shorter than at the start: 10 at the first distance",
+        is_refused_elsewhere(),
+    );
+    say(
+        b"bound 4, 0.0 throughout, tables of 4,200: 6 at the 4,097th distance",
+        is_refused_past_4096(),
+    );
     say_of_73();
     say_of_81();
+    // Corner 7 of 816 lies at 1 on x, 3 on y and 7 on z, of 8.
+    say(
+        b"vertex of 816, corner 7, level 3: slab 7 of 8, 3 of 4, 0 of 1",
+        lies_in(816, 3, 7) && lies_in(816, 2, 3) && lies_in(816, 0, 0),
+    );
     show_ends();
     show_distances();
     show_rooms();

@@ -9,13 +9,13 @@ use lib.Pow.{pow-pos, pow-add}
 use borrow.Author.Tests.{eqb-true}
 use Rattle.morton.specs.Field.{bit, coord, key}
 use Rattle.morton.specs.Level.{deepest, Cell}
-use Rattle.morton.specs.Vertex.{inside, cornerAt, vertexOf, isInner}
+use Rattle.morton.specs.Vertex.{inside, cornerAt, vertexOf, isInner, sideOf}
 use Rattle.morton.proofs.Levels.{and-true, lead-cell}
 use Rattle.morton.proofs.Fields.{coord-lt, coord-key, key-coord, key-ext, key-cell, coord-down}
 use Rattle.morton.proofs.Vertices.{inside-is, inside-if, down-cell, low-pow, vertex-if, inner-level}
 use Rattle.morton.proofs.Sides.{vertex-level, vertex-inside, vertex-is}
 use Rattle.geometry.specs.Corner.{Corner, StrictlyInside}
-use Rattle.geometry.proofs.Place.{key-down, OnGrid}
+use Rattle.geometry.proofs.Place.{key-down, OnGrid, corner-of-side, side-on-grid}
 
 -- the coordinates of a key that is moved down to the vertex grid
 point-down : (L q a : ℕ) → L ≤ deepest → a < 3 → coord deepest (q * 8 ^ (deepest - L)) a ≡ coord L q a * 2 ^ (deepest - L)
@@ -124,3 +124,10 @@ module _ (L v : ℕ) (l : v < 2 ^ 64) (e : isInner L v ≡ true) where
   pub inner-grid : OnGrid L v
   unfolding OnGrid
   inner-grid a h = ap (λ (n : ℕ). n % 2 ^ (deepest - L)) (on a h) ∙ mul-mod-left (coord L (v / 8 ^ (deepest - L)) a) (2 ^ (deepest - L))
+
+  -- so it is the vertex at corner w of its cell on side w: what is inner and what is a vertex of a cell are the same numbers
+  pub inner-vertex : (w : ℕ) → w < 8 → vertexOf L (sideOf L v w) w ≡ v
+  inner-vertex w h =
+      corner-vertex L (sideOf L v w) w v (inner-level L v e .1)
+      (subst (λ (k : ℕ). Corner L k w v) (sym (side-on-grid L v w shallow h inner-strict inner-grid)) (corner-of-side L w v shallow inner-strict inner-grid))
+      inner-strict

@@ -10,11 +10,11 @@ abbrev Same : {A : Type 0} → List A → List A → Type 0
 Same xs ys = length xs ≡ length ys
 
 abbrev Inv-loop : tie.InvT-loop
-Inv-loop bound field keys₀ distances₀ leaves₀ queue₀ t₀ left₀ keys distances leaves queue t left =
+Inv-loop bound field most keys₀ distances₀ leaves₀ queue₀ t₀ left₀ keys distances leaves queue t left =
     Same keys keys₀ × Same distances distances₀ × Same leaves leaves₀ × Same queue queue₀
 
 abbrev μ-loop : tie.MeasureT-loop
-μ-loop bound field keys₀ distances₀ leaves₀ queue₀ t₀ left₀ keys distances leaves queue t left = left
+μ-loop bound field most keys₀ distances₀ leaves₀ queue₀ t₀ left₀ keys distances leaves queue t left = left
 
 -- src/main.rt:95:17
 start-requires : tie.Need-start-requires Inv-loop μ-loop
