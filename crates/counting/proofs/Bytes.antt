@@ -1,11 +1,15 @@
 -- Bytes as distances, and what distances lead to. Assumes nothing.
 use Prim.Native.Nat.{ℕ, zero, suc, _+_, _-_, _*_, _≤_, _<_}
 use mathlib.Core.Path.{_≡_, refl, sym, _∙_, ap, ap₂}
+use mathlib.Core.Logic.{⊎-elim}
 use mathlib.Core.List.{List, [], _∷_}
 use native.Mathlib.Omega.{arith}
 use lib.ListN.{length, getD, take, drop, length-drop}
 use lib.Seq.{drop-cons}
 use lib.Ieee.{Float, ofBits, binary32}
+use types.Run.{OneOf}
+use denote.Enum.Declared.{tagOf}
+use Rattle.build.proofs.Answer.{the-type}
 use Rattle.build.specs.declared.Request.{Request}
 use Rattle.build.specs.declared.State.{State}
 use Rattle.build.specs.declared.Answer.{Answer}
@@ -83,6 +87,12 @@ unfolding afterAll
 after-refused [] k t = refl
 after-refused (d ∷ ds) k t = after-refused ds k t
 
+-- an answer of tag 1 or 2 is one of these
+after-idle : (ds : List Float) (a : Answer) (t : Tables) → OneOf (1 ∷ 2 ∷ []) (tagOf the-type a) → afterAll ds (outcome a t) ≡ outcome a t
+after-idle ds (Ask r s) t k = absurd (⊎-elim (λ e. omega arith) (λ e. omega arith) k)
+after-idle ds (Finished s) t k = after-finished ds s t
+after-idle ds (Refused n) t k = after-refused ds n t
+
 -- ---- the loop of `drive`
 
 -- What all of an input leads to, and that what is left of it leads there from the last answer.
@@ -115,8 +125,5 @@ module _ {input : List ℕ} {was : Tables} {at : ℕ} {a : Answer} {t : Tables} 
   unfolding afterAll
   ends-short {b} e l = ends e (ap (λ (ds : List Float). afterAll ds (outcome b t)) (read-none input at l))
 
-  pub ends-finished : {s : State} → a ≡ Finished s → outcome (Finished s) t ≡ wholeOf input was
-  ends-finished {s} e = ends e (after-finished (distancesIn (drop at input)) s t)
-
-  pub ends-refused : {k : ℕ} → a ≡ Refused k → outcome (Refused k) t ≡ wholeOf input was
-  ends-refused {k} e = ends e (after-refused (distancesIn (drop at input)) k t)
+  pub ends-idle : OneOf (1 ∷ 2 ∷ []) (tagOf the-type a) → outcome a t ≡ wholeOf input was
+  ends-idle k = ends refl (after-idle (distancesIn (drop at input)) a t k)

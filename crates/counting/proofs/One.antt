@@ -1,6 +1,6 @@
 -- One answer only: the promise of `line` settles its 64 bytes and how many of them count. Assumes nothing.
 use Prim.Native.Nat.{ℕ}
-use mathlib.Core.Path.{_≡_, sym, _∙_, ap₂}
+use mathlib.Core.Path.{sym, _∙_, ap₂}
 use mathlib.Core.List.{List}
 use Rattle.morton.proofs.One.{OnlyOne}
 use Rattle.counting.specs.declared.Text.{Text}

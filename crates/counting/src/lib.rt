@@ -144,22 +144,15 @@ fn drive(
     let mut answer = build::start(bound_of(input), keys, distances, leaves, queue);
     let mut at = 1;
     loop {
-        match answer {
-            Answer::Ask(_, s) => {
-                if input.len() - at < 4 {
-                    return answer;
-                }
-                let d = distance_at(input, at);
-                answer = build::distance(s, keys, distances, leaves, queue, d);
-                at += 4;
-            }
-            Answer::Finished(s) => {
-                return Answer::Finished(s);
-            }
-            Answer::Refused(number) => {
-                return Answer::Refused(number);
-            }
+        let Answer::Ask(_, s) = answer else {
+            return answer;
+        };
+        if input.len() - at < 4 {
+            return answer;
         }
+        let d = distance_at(input, at);
+        answer = build::distance(s, keys, distances, leaves, queue, d);
+        at += 4;
     }
 }
 

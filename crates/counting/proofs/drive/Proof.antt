@@ -6,7 +6,7 @@ use native.Mathlib.Omega.{arith}
 use lib.ListN.{length}
 use borrow.Author.Needs.{needs}
 use Rattle.build.specs.Build.{tablesOf}
-use Rattle.counting.proofs.Bytes.{Going, going-start, going-on, ends-short, ends-finished, ends-refused}
+use Rattle.counting.proofs.Bytes.{Going, going-start, going-on, ends-short, ends-idle}
 use Rattle.counting.proofs.drive.Statement.{statement}
 use Rattle.counting.proofs.drive.Tie as tie
 
@@ -33,23 +33,38 @@ loop-holds c = (refl, refl, refl, refl, omega (arith, c .before .before .before 
 enum-known-answer : tie.Need-enum-known-answer Inv-loop μ-loop
 enum-known-answer c = search needs
 
+same-length : tie.Need-same-length Inv-loop μ-loop
+same-length c = c .before .loop .inv .0
+
+same-length-2 : tie.Need-same-length-2 Inv-loop μ-loop
+same-length-2 c = c .before .loop .inv .1
+
+same-length-3 : tie.Need-same-length-3 Inv-loop μ-loop
+same-length-3 c = c .before .loop .inv .2
+
+same-length-4 : tie.Need-same-length-4 Inv-loop μ-loop
+same-length-4 c = c .before .loop .inv .3
+
+returns : tie.Need-returns Inv-loop μ-loop
+returns c = ends-idle (c .before .loop .inv .5) (c .match .keys2)
+
 sub-if1 : tie.Need-sub-if1 Inv-loop μ-loop
 sub-if1 c = search needs
 
-same-length : tie.Need-same-length Inv-loop μ-loop
-same-length c = c .before .before .before .before .loop .inv .0
+same-length-5 : tie.Need-same-length-5 Inv-loop μ-loop
+same-length-5 c = c .before .before .before .before .loop .inv .0
 
-same-length-2 : tie.Need-same-length-2 Inv-loop μ-loop
-same-length-2 c = c .before .before .before .before .loop .inv .1
+same-length-6 : tie.Need-same-length-6 Inv-loop μ-loop
+same-length-6 c = c .before .before .before .before .loop .inv .1
 
-same-length-3 : tie.Need-same-length-3 Inv-loop μ-loop
-same-length-3 c = c .before .before .before .before .loop .inv .2
+same-length-7 : tie.Need-same-length-7 Inv-loop μ-loop
+same-length-7 c = c .before .before .before .before .loop .inv .2
 
-same-length-4 : tie.Need-same-length-4 Inv-loop μ-loop
-same-length-4 c = c .before .before .before .before .loop .inv .3
+same-length-8 : tie.Need-same-length-8 Inv-loop μ-loop
+same-length-8 c = c .before .before .before .before .loop .inv .3
 
-returns : tie.Need-returns Inv-loop μ-loop
-returns c = ends-short (c .before .before .before .before .loop .inv .5) (c .before .before .answer .given .1) (c .if1 .taken)
+returns-2 : tie.Need-returns-2 Inv-loop μ-loop
+returns-2 c = ends-short (c .before .before .before .before .loop .inv .5) (c .before .before .answer .given .1) (c .if1 .taken)
 
 distance-at-requires : tie.Need-distance-at-requires Inv-loop μ-loop
 distance-at-requires c κs = omega (arith, c .if1 .left, c .before .before .before .before .loop .inv .4)
@@ -76,42 +91,6 @@ loop-again c =
       going-on (i .5) _ (c .before .before .before .before .before .before .before .before .distance .result) _ (c .before .before .before .before .before .before .before .before .before .before .before .before .before .before .before .before .answer .given .1) room (c .before .before .before .before .before .before .before .before .before .before .before .before .before .distance-at .ensures) (c .before .before .before .before .before .before .before .before .distance .ensures),
     )
 
-enum-known-answer-2 : tie.Need-enum-known-answer-2 Inv-loop μ-loop
-enum-known-answer-2 c = search needs
-
-same-length-5 : tie.Need-same-length-5 Inv-loop μ-loop
-same-length-5 c = c .before .before .before .loop .inv .0
-
-same-length-6 : tie.Need-same-length-6 Inv-loop μ-loop
-same-length-6 c = c .before .before .before .loop .inv .1
-
-same-length-7 : tie.Need-same-length-7 Inv-loop μ-loop
-same-length-7 c = c .before .before .before .loop .inv .2
-
-same-length-8 : tie.Need-same-length-8 Inv-loop μ-loop
-same-length-8 c = c .before .before .before .loop .inv .3
-
-returns-2 : tie.Need-returns-2 Inv-loop μ-loop
-returns-2 c = ends-finished (c .before .before .before .loop .inv .5) (c .before .answer2 .given .1)
-
-enum-known-answer-3 : tie.Need-enum-known-answer-3 Inv-loop μ-loop
-enum-known-answer-3 c = search needs
-
-same-length-9 : tie.Need-same-length-9 Inv-loop μ-loop
-same-length-9 c = c .before .before .before .loop .inv .0
-
-same-length-10 : tie.Need-same-length-10 Inv-loop μ-loop
-same-length-10 c = c .before .before .before .loop .inv .1
-
-same-length-11 : tie.Need-same-length-11 Inv-loop μ-loop
-same-length-11 c = c .before .before .before .loop .inv .2
-
-same-length-12 : tie.Need-same-length-12 Inv-loop μ-loop
-same-length-12 c = c .before .before .before .loop .inv .3
-
-returns-3 : tie.Need-returns-3 Inv-loop μ-loop
-returns-3 c = ends-refused (c .before .before .before .loop .inv .5) (c .before .answer3 .given .1)
-
 pub drive-spec : {M : Type 1} → statement M
 drive-spec =
     tie.close
@@ -122,26 +101,19 @@ drive-spec =
     start-requires
     loop-holds
     enum-known-answer
-    sub-if1
     same-length
     same-length-2
     same-length-3
     same-length-4
     returns
-    distance-at-requires
-    distance-requires
-    add-at
-    loop-less
-    loop-again
-    enum-known-answer-2
+    sub-if1
     same-length-5
     same-length-6
     same-length-7
     same-length-8
     returns-2
-    enum-known-answer-3
-    same-length-9
-    same-length-10
-    same-length-11
-    same-length-12
-    returns-3)
+    distance-at-requires
+    distance-requires
+    add-at
+    loop-less
+    loop-again)
