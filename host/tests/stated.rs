@@ -68,6 +68,31 @@ fn every_call_has_its_one_answer_on_the_page() {
     }
 }
 
+/// The names that the files of proofs and definitions below a folder declare.
+fn declared(folder: &Path, names: &mut BTreeSet<String>) {
+    for entry in fs::read_dir(folder).unwrap_or_else(|e| panic!("{}: {e}", folder.display())) {
+        let path = entry.expect("an entry of a folder").path();
+        if path.is_dir() {
+            declared(&path, names);
+        } else if path.extension().is_some_and(|ending| ending == "antt") {
+            let text = fs::read_to_string(&path).expect("a text");
+            names.extend(text.lines().filter_map(stated).map(String::from));
+        }
+    }
+}
+
+/// What docs/TRUST.md counts on must be there: nothing else cites most of it.
+#[test]
+fn every_law_that_is_trusted_to_notice_is_declared() {
+    let mut names = BTreeSet::new();
+    declared(&Path::new(env!("CARGO_MANIFEST_DIR")).join("../crates"), &mut names);
+    let trust = text_of("docs/TRUST.md");
+    let trusted = named(&trust);
+    assert!(trusted.contains("read-back"), "docs/TRUST.md was read as {trusted:?}");
+    let missing: Vec<_> = trusted.into_iter().filter(|name| !names.contains(*name)).collect();
+    assert!(missing.is_empty(), "docs/TRUST.md names {missing:?}, which nothing declares");
+}
+
 #[test]
 fn what_is_taken_for_a_theorem() {
     let text = "`list-same` of `crates/x-y`, `tools/memory --check`, `--check`, `look_up` and `cells-2-right`; `Not-one`, `x-`";

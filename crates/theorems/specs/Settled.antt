@@ -35,6 +35,9 @@ use Rattle.dual.specs.declared.SlabAnswer.{SlabAnswer}
 use Rattle.dual.specs.Dual.{DualSays, TrustingSays as DualTrustingSays}
 use Rattle.dual.specs.Slab.{slabAnswer}
 use Rattle.dual.proofs.One as dual
+use Rattle.counting.specs.declared.Text.{Text}
+use Rattle.counting.specs.Printed.{lineOf, Holds}
+use Rattle.counting.proofs.One as counting
 use Rattle.mittenhelm_keys.specs.Keys.{HandsKey, HandsSize, Three, HandsCentre}
 use Rattle.mittenhelm_keys.proofs.One as keys
 use Rattle.mittenhelm_builds.specs.Words.{Reply, startReplies, Effect, distanceEffect}
@@ -142,6 +145,11 @@ dual-cell-trusting-one = dual.dual-cell-trusting-one
 
 pub slab-one : (v L s : ℕ) → OnlyOne (λ (r : SlabAnswer). r ≡ slabAnswer v L s)
 slab-one = dual.slab-one
+
+-- ---- the line that `counts` prints
+
+pub line-one : (input : List ℕ) → OnlyOne (λ (t : Text). Holds (lineOf input) (t .bytes) (t .length))
+line-one = counting.line-one
 
 -- ---- exported calls: the number that is returned, and what the out parameters hold then
 

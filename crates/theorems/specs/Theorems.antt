@@ -49,6 +49,10 @@ use Rattle.mittenhelm_builds.specs.Words.{stateOf, wordsOf, reply, startReplies
 use Rattle.hosts.specs.HostRun.{Host, HostRun, treeIn}
 use Rattle.hosts.specs.Hosts.{AfterEveryCall}
 use Rattle.hosts.proofs.Hosts as hosts
+use Rattle.counting.specs.Vertices.{vertexCount}
+use Rattle.counting.specs.Printed.{lineOf}
+use Rattle.counting.proofs.Runs as runs
+use Rattle.counting.proofs.Distinct as distinct
 
 -- ---- a build is whole at every step
 
@@ -292,6 +296,16 @@ batches-end ks calls got d = batches.of-all-batches ks calls got d .ends
 -- Of a sound tree these are its list.
 pub batches-listed : (t : Tree) → Sound t → (calls : ℕ) (got : Cells) → Done (t .keys) calls got → Listed (t .leaves) (got .vertices) (got .levels)
 batches-listed t sound calls got d = batches.of-sound-trees-in-batches t sound calls got d .listed
+
+-- ---- the program `counts`
+
+-- Later bytes are ignored: no more than 4,101 are ever needed.
+pub later-ignored : (input : List ℕ) → lineOf (take 4101 input) ≡ lineOf input
+later-ignored = runs.later-ignored
+
+-- The vertices that it counts by the leaves' corners are as many as every list has.
+pub listed-count : (leaves vs ls : List ℕ) → Listed leaves vs ls → length vs ≡ vertexCount leaves
+listed-count = distinct.listed-count
 
 -- ---- floats are exact
 
