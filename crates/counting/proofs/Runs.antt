@@ -4,7 +4,7 @@ use mathlib.Core.Path.{_≡_, refl, sym, _∙_, ap, subst}
 use mathlib.Core.Bool.{Bool, true, false, cond}
 use mathlib.Core.List.{List, [], _∷_}
 use native.Mathlib.Omega.{arith}
-use lib.Dec.{eqb, ltb}
+use lib.Dec.{ltb}
 use lib.ListN.{length, take, length-replicate}
 use lib.Ieee.{Float}
 use Rattle.morton.specs.Level.{limit}
@@ -12,33 +12,15 @@ use Rattle.build.specs.declared.Request.{Request}
 use Rattle.build.specs.declared.State.{State}
 use Rattle.build.specs.declared.Answer.{Answer}
 use Rattle.build.specs.declared.Answer.the-variants.{Ask, Finished, Refused}
-use Rattle.build.specs.Build.{Tables, Outcome, outcome, lengthsOf, nodeRoom, items, movedOf, refusalOf, splitOf, acceptOf, advanceOf, decideOf, distanceOf, startOf}
+use Rattle.build.specs.Build.{Tables, Outcome, outcome, lengthsOf, nodeRoom, distanceOf, startOf}
 use Rattle.demands.specs.Run.{Run}
 use Rattle.demands.specs.Run.Run.{started, asked, finished}
-use Rattle.demands.proofs.Call.{finished-refused}
+use Rattle.demands.proofs.Call.{distance-ends}
 use Rattle.demands.proofs.Demands.{building}
 use Rattle.counting.specs.Printed.{distancesIn, lent, afterAll, lineAt, lineOf}
 use Rattle.counting.proofs.Bytes.{take-distances, after-finished, after-refused}
 
--- ---- a finished build asks for nothing
-
-advance-idle : (s : State) (m : ℕ) (queue : List ℕ) (s' : State) → advanceOf s m queue ≡ Finished s' → s' .asked ≡ 0
-unfolding advanceOf movedOf
-advance-idle s m queue s' e = sym (ap (λ (x : State). x .asked) (go (ltb (s .nodes) (items (s .nodes + 1) m)) _ _ _ e))
-  where
-    go : (b : Bool) (q : Request) (x y : State) → cond b (Ask q x) (Finished y) ≡ Finished s' → y ≡ s'
-    go true q x y e = absurd (let z : _≡_ {A = ℕ} 0 1 = cc in omega arith)
-    go false q x y e = cc
-
-finished-idle : (s : State) (t t' : Tables) (d : Float) (s' : State) → distanceOf s d t ≡ outcome (Finished s') t' → s' .asked ≡ 0
-unfolding distanceOf decideOf acceptOf
-finished-idle s t t' d s' e =
-    advance-idle s _ _ s' (go (eqb (refusalOf s (splitOf s d) t) 0) _ _ _ (ap (λ (o : Outcome). o .answer) e))
-  where
-    go : (b : Bool) (x : Answer) (u : Tables) (k : ℕ) → cond b (outcome x u) (outcome (Refused k) t) .answer ≡ Finished s' → x ≡ Finished s'
-    go true x u k e = e
-    go false x u k e = absurd (finished-refused s' k (sym e))
-
+-- a start finishes nothing
 start-unfinished : (bound : ℕ) (t : Tables) (s : State) → startOf bound t ≡ Finished s → ⊥
 unfolding startOf
 start-unfinished bound t s = go (ltb limit bound) _ _
@@ -63,7 +45,7 @@ module _ (bound : ℕ) (was : Tables) where
   next-led : {given : List Float} {s : State} {t : Tables} (d : Float) → Run bound was given s t
       → (a : Answer) (t' : Tables) → distanceOf s d t ≡ outcome a t' → Led bound was (d ∷ given) a t'
   next-led d run (Ask r s') t' e = asked d run e
-  next-led {given} {s} {t} d run (Finished s') t' e = (finished d run e, finished-idle s t t' d s' e)
+  next-led {given} {s} {t} d run (Finished s') t' e = (finished d run e, distance-ends s d t s' (ap (λ (o : Outcome). o .answer) e))
   next-led d run (Refused k) t' e = tt
 
   after-led : (ds given : List Float) (a : Answer) (t : Tables) → Led bound was given a t

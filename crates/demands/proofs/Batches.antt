@@ -27,7 +27,7 @@ use Rattle.vertices.proofs.Law.{corner-add, corner-first, corner-last, spots-li
 use Rattle.vertices.proofs.Storing.{places-append, places-length}
 use Rattle.vertices.proofs.Rounds.{cells-right}
 use Rattle.dual.specs.Dual.{sum, triedTo, DualCell}
-use Rattle.demands.specs.Batches.{withBatch, Batches, Done, WhileFull, GotAll, OfFullBatches, OfAllBatches, placesAt, AllCells, OfSoundTreesInBatches}
+use Rattle.demands.specs.Batches.{withBatch, Batches, Done, OfFullBatches, OfAllBatches, placesAt, AllCells, OfSoundTreesInBatches}
 use Rattle.demands.specs.Batches.Batches.{begun, full}
 use Rattle.demands.specs.Batches.Done.{done}
 

@@ -69,6 +69,29 @@ answer-took s t t' d a e n =
       tables = ap (λ (o : Outcome). o .tables) (c .1);
     }
 
+-- an answer that isn't refused is that of `advanceOf`
+pub advanced : (s : State) (d : Float) (t : Tables) (a : Answer) → ((k : ℕ) → a ≡ Refused k → ⊥) → distanceOf s d t .answer ≡ a
+    → advanceOf s (leavesOf s (splitOf s d)) (queueOf s (splitOf s d) t) ≡ a
+unfolding distanceOf decideOf acceptOf
+advanced s d t a n = go (eqb (refusalOf s (splitOf s d) t) 0)
+  where
+    go : (b : Bool) → cond b (acceptOf s (splitOf s d) d t) (outcome (Refused (refusalOf s (splitOf s d) t)) t) .answer ≡ a
+        → advanceOf s (leavesOf s (splitOf s d)) (queueOf s (splitOf s d) t) ≡ a
+    go true e = e
+    go false e = absurd (n _ (sym e))
+
+-- a finished build asks for nothing
+advance-ends : (s : State) (m : ℕ) (queue : List ℕ) (s' : State) → advanceOf s m queue ≡ Finished s' → s' .asked ≡ 0
+unfolding advanceOf movedOf
+advance-ends s m queue s' = go (ltb (s .nodes) (items (s .nodes + 1) m)) _ _
+  where
+    go : (b : Bool) (r : Request) (x : State) → cond b (Ask r x) (Finished (movedOf s m 0)) ≡ Finished s' → s' .asked ≡ 0
+    go true r x e = absurd (let z : _≡_ {A = ℕ} 0 1 = cc in omega arith)
+    go false r x e = let j : movedOf s m 0 ≡ s' = cc in ap (λ (z : State). z .asked) (sym j)
+
+pub distance-ends : (s : State) (d : Float) (t : Tables) (s' : State) → distanceOf s d t .answer ≡ Finished s' → s' .asked ≡ 0
+distance-ends s d t s' e = advance-ends s _ _ s' (advanced s d t (Finished s') (finished-refused s') e)
+
 -- a refused call gives the number of its refusal
 pub refused-number : (s : State) (d : Float) (t : Tables) (k : ℕ) → distanceOf s d t .answer ≡ Refused k → (refusalOf s (splitOf s d) t ≡ k) × (k ≡ 0 → ⊥)
 unfolding distanceOf decideOf acceptOf advanceOf

@@ -13,8 +13,8 @@ use Rattle.build.specs.declared.Request.{Request}
 use Rattle.build.specs.declared.State.{State}
 use Rattle.build.specs.declared.Answer.{Answer}
 use Rattle.build.specs.declared.Answer.the-variants.{Ask, Finished, Refused}
-use Rattle.build.specs.Build.{Tables, Outcome, outcome, requestOf, items, itemAt, lengthsOf, nodeRoom, fits, fullOf, refusalOf, refusalAt, splitOf, queueOf, leavesOf, movedOf, advanceOf, acceptOf, decideOf, distanceOf, startOf}
-use Rattle.demands.proofs.Call.{ask-refused, finished-refused}
+use Rattle.build.specs.Build.{Tables, Outcome, outcome, requestOf, items, itemAt, lengthsOf, nodeRoom, fits, fullOf, refusalOf, refusalAt, splitOf, movedOf, advanceOf, acceptOf, decideOf, distanceOf, startOf}
+use Rattle.demands.proofs.Call.{ask-refused, finished-refused, advanced}
 use Rattle.mittenhelm_builds.specs.Words.{stateOf, wordsOf, Reply, reply, handOver, startReplies, Effect, effect, effectOf, distanceEffect}
 
 -- ---- what the build answers
@@ -58,31 +58,8 @@ module _ (s : State) (m : ℕ) (queue : List ℕ) where
       go true f e = moved (cc) (cc) (ltb-true _ _ f)
       go false f e = absurd (let z : _≡_ {A = ℕ} 0 1 = cc in omega arith)
 
-  advance-ends : (s' : State) → advanceOf s m queue ≡ Finished s' → s' .asked ≡ 0
-  unfolding advanceOf movedOf
-  advance-ends s' = go (ltb (s .nodes) (items (s .nodes + 1) m)) _ _
-    where
-      go : (b : Bool) (r : Request) (x : State) → cond b (Ask r x) (Finished (movedOf s m 0)) ≡ Finished s' → s' .asked ≡ 0
-      go true r x e = absurd (let z : _≡_ {A = ℕ} 0 1 = cc in omega arith)
-      go false r x e = let j : movedOf s m 0 ≡ s' = cc in ap (λ (z : State). z .asked) (sym j)
-
-module _ (s : State) (d : Float) (t : Tables) where
-  -- an answer that isn't refused is that of `advanceOf`
-  advanced : (a : Answer) → ((k : ℕ) → a ≡ Refused k → ⊥) → distanceOf s d t .answer ≡ a
-      → advanceOf s (leavesOf s (splitOf s d)) (queueOf s (splitOf s d) t) ≡ a
-  unfolding distanceOf decideOf acceptOf
-  advanced a n = go (eqb (refusalOf s (splitOf s d) t) 0)
-    where
-      go : (b : Bool) → cond b (acceptOf s (splitOf s d) d t) (outcome (Refused (refusalOf s (splitOf s d) t)) t) .answer ≡ a
-          → advanceOf s (leavesOf s (splitOf s d)) (queueOf s (splitOf s d) t) ≡ a
-      go true e = e
-      go false e = absurd (n _ (sym e))
-
-  pub distance-asks : (r : Request) (s' : State) → distanceOf s d t .answer ≡ Ask r s' → Asks r s'
-  distance-asks r s' e = advance-asks s _ _ r s' (advanced (Ask r s') (ask-refused r s') e)
-
-  pub distance-ends : (s' : State) → distanceOf s d t .answer ≡ Finished s' → s' .asked ≡ 0
-  distance-ends s' e = advance-ends s _ _ s' (advanced (Finished s') (finished-refused s') e)
+pub distance-asks : (s : State) (d : Float) (t : Tables) (r : Request) (s' : State) → distanceOf s d t .answer ≡ Ask r s' → Asks r s'
+distance-asks s d t r s' e = advance-asks s _ _ r s' (advanced s d t (Ask r s') (ask-refused r s') e)
 
 -- ---- the number that a distance returns
 

@@ -27,7 +27,7 @@ use Rattle.dual.specs.declared.Tried.the-variants as tried
 use Rattle.demands.specs.Run.{Run}
 use Rattle.demands.specs.Run.Run.{started as run-started, asked as run-asked, finished as run-finished}
 use Rattle.demands.specs.Reading.{HoldsAlone, LeafCell, Reading}
-use Rattle.demands.proofs.Call.{ask-refused}
+use Rattle.demands.proofs.Call.{ask-refused, distance-ends}
 use Rattle.demands.proofs.Trace.{run-traced}
 use Rattle.demands.proofs.Fits.{leaves-count, count-done}
 use Rattle.demands.proofs.Demands.{building, queue-of-64}
@@ -42,7 +42,7 @@ use Rattle.hosts.specs.HostRun.HostRun.{started, told}
 use Rattle.hosts.specs.Hosts.{ReadBack, WrittenBack, EightWords, AsTold, IsABuild, InReach}
 use Rattle.hosts.specs.Hosts.{returned, HostsBuilding, HostsQueueOf64, dualIn, HostsReading, HostsFinished, StartReturns, DistanceReturns}
 use Rattle.hosts.specs.Hosts.{RefusedStart, RefusedDistance, Requests, StartRequests, DistanceRequests, Alike, BroughtBackLater, GoesOnAsBefore, BroughtBackAnywhere}
-use Rattle.hosts.proofs.Handed.{StartSaid, start-said, Said, said, Asks, distance-asks, distance-ends, distance-refused, number-is, asks-nothing, nothing-asked}
+use Rattle.hosts.proofs.Handed.{StartSaid, start-said, Said, said, Asks, distance-asks, distance-refused, number-is, asks-nothing, nothing-asked}
 use Rattle.hosts.proofs.Handed.StartSaid.{declines, begins}
 use Rattle.hosts.proofs.Handed.Said.{refuses, asks, ends}
 
