@@ -176,10 +176,10 @@ pub enough-leaves : (bound : ℕ) (lent : Tables) (given : List Float) (s : Stat
 enough-leaves = rooms.enough-leaves
 
 -- and distances that finish a build on some tables finish it, with the same tree, on all tables with room for its nodes.
-pub finishes : (bound : ℕ) (large lent : Tables) (given : List Float) (s : State) (t : Tables)
+pub finishes-too : (bound : ℕ) (large lent : Tables) (given : List Float) (s : State) (t : Tables)
     → Run bound large given s t → s .asked ≡ 0 → RoomFor (s .nodes) lent
     → (s' : State) × (t' : Tables) × Run bound lent given s' t' × (s' .asked ≡ 0) × (treeAfter s' t' ≡ treeAfter s t)
-finishes = rooms.finishes
+finishes-too = rooms.finishes
 
 -- A queue of 64 finishes bound 2, and a shorter one lets no build finish.
 pub queue-of-64 : (bound : ℕ) (lent : Tables) (given : List Float)
