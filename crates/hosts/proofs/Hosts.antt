@@ -39,26 +39,12 @@ use Rattle.mittenhelm_builds.proofs.Header.{read-back, written-back, words-are-
 use Rattle.mittenhelm_reading.specs.Reading.{Eight, HandsEight, HandsList}
 use Rattle.hosts.specs.HostRun.{Host, HostRun}
 use Rattle.hosts.specs.HostRun.HostRun.{started, told}
-use Rattle.hosts.specs.Hosts.{ReadBack, WrittenBack, EightWords, AsTold, IsABuild, InReach}
+use Rattle.hosts.specs.Hosts.{IsABuild, InReach}
 use Rattle.hosts.specs.Hosts.{returned, HostsBuilding, HostsQueueOf64, dualIn, HostsReading, HostsFinished, StartReturns, DistanceReturns}
 use Rattle.hosts.specs.Hosts.{RefusedStart, RefusedDistance, Requests, StartRequests, DistanceRequests, Alike, BroughtBackLater, GoesOnAsBefore, BroughtBackAnywhere}
 use Rattle.hosts.proofs.Handed.{StartSaid, start-said, Said, said, Asks, distance-asks, distance-refused, number-is, asks-nothing, nothing-asked}
 use Rattle.hosts.proofs.Handed.StartSaid.{declines, begins}
 use Rattle.hosts.proofs.Handed.Said.{refuses, asks, ends}
-
--- ---- a state and its words
-
-pub state-read-back : ReadBack
-state-read-back = read-back
-
-pub words-written-back : WrittenBack
-words-written-back = written-back
-
-pub eight-words : EightWords
-eight-words = words-are-eight
-
-pub as-told : AsTold
-as-told = words-told
 
 -- ---- a host's build is a build
 

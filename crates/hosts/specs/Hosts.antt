@@ -19,23 +19,6 @@ use Rattle.mittenhelm_builds.specs.Header.{word, Told}
 use Rattle.mittenhelm_reading.specs.Reading.{Eight, HandsList, HandsDual}
 use Rattle.hosts.specs.HostRun.{Host, HostRun, treeIn}
 
--- ---- a state and its words
-
--- What is written is read back,
-abbrev pub ReadBack : Type 0
-ReadBack = (s : State) → stateOf (wordsOf s) ≡ s
-
--- what is read is written back,
-abbrev pub WrittenBack : Type 0
-WrittenBack = (words : List ℕ) → length words ≡ 8 → wordsOf (stateOf words) ≡ words
-
--- and a state is eight words, which stand as the header tells it.
-abbrev pub EightWords : Type 0
-EightWords = (s : State) → length (wordsOf s) ≡ 8
-
-abbrev pub AsTold : Type 0
-AsTold = (s : State) → Told (wordsOf s) s
-
 -- ---- a host's build is a build, and each build is in reach of every host
 
 abbrev pub IsABuild : Type 0

@@ -1,5 +1,5 @@
 -- What some definitions say, said again in other words: a child by its coordinates, a sum by its undoing, an extent by the corners. Assumes nothing.
-use mathlib.Core.Path.{_≡_, refl, sym, ap, _∙_, subst}
+use mathlib.Core.Path.{_≡_, sym, ap, _∙_, subst}
 use mathlib.Core.Bool.{not}
 use Prim.Native.Nat.{ℕ, suc, _+_, _-_, _*_, _/_, _%_, _^_, _≤_, _<_}
 use native.Mathlib.Nat.{pow-succ', mul-assoc, mul-left-comm, mod-lt, mod-eq-of-lt, add-mod-right}
@@ -12,7 +12,7 @@ use borrow.Author.Tests.{le-ltb, ne-eqb}
 use Rattle.morton.specs.Answers.{theKey, childOf, OnAxis}
 use Rattle.morton.specs.Exact.{Exactly}
 use Rattle.morton.specs.Field.{bit, width, field, coord, key, add, sub}
-use Rattle.morton.specs.Level.{deepest, level, Cell, isCell}
+use Rattle.morton.specs.Level.{deepest, level, Cell}
 use Rattle.morton.proofs.Cells.{child-cell}
 use Rattle.morton.proofs.Dilated.{third-lt}
 use Rattle.morton.proofs.Fields.{coord-lt, field-word, word-field, weave-ext, key-coord, key-ext, coord-child}

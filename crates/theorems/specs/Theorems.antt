@@ -9,7 +9,7 @@ use Rattle.morton.specs.Exact.{Exactly}
 use Rattle.morton.specs.Field.{coord}
 use Rattle.morton.specs.Level.{deepest, level, Cell}
 use Rattle.morton.specs.Split.{splits}
-use Rattle.morton.specs.Vertex.{sideOf}
+use Rattle.morton.specs.Vertex.{isInner, sideOf}
 use Rattle.tree.specs.declared.Lookup.{Lookup}
 use Rattle.tree.specs.Tree.{Tree, StandsAt, In, Ascending, Sound, Decides}
 use Rattle.tree.specs.Climb.{LookupSays, triedIn, trustingOf}
@@ -32,7 +32,7 @@ use Rattle.vertices.proofs.Rounds.{EntryAt}
 use Rattle.vertices.proofs.Rounds as rounds
 use Rattle.dual.specs.declared.Dual.{Dual}
 use Rattle.dual.specs.declared.Tried.the-variants as tried
-use Rattle.dual.specs.Dual.{DualSays, TrustingSays as DualTrustingSays}
+use Rattle.dual.specs.Dual.{DualCell, DualSays, TrustingSays as DualTrustingSays}
 use Rattle.dual.proofs.One as dual
 use Rattle.demands.specs.Run.{Run, nodeKeys, leafKeys, openCells, wholeOf, childrenOf}
 use Rattle.demands.specs.Demands.{AfterEveryDistance}
@@ -46,8 +46,9 @@ use Rattle.demands.proofs.Rooms as rooms
 use Rattle.demands.proofs.Most as most
 use Rattle.demands.proofs.Batches as batches
 use Rattle.mittenhelm_builds.specs.Words.{stateOf, wordsOf, reply, startReplies, effect, distanceEffect}
+use Rattle.mittenhelm_builds.proofs.Header as header
 use Rattle.hosts.specs.HostRun.{Host, HostRun, treeIn}
-use Rattle.hosts.specs.Hosts.{AfterEveryCall}
+use Rattle.hosts.specs.Hosts.{AfterEveryCall, HostsReading}
 use Rattle.hosts.proofs.Hosts as hosts
 use Rattle.counting.specs.Vertices.{vertexCount}
 use Rattle.counting.specs.Printed.{lineOf}
@@ -107,12 +108,15 @@ module _ (bound : ℕ) (lent : Tables) (given : List Float) (s : State) (t : Tab
 
 -- ---- a host behind the C boundary
 
--- What is written of a state is read back, in eight words.
+-- What is written of a state is read back, what is read is written back, and it is eight words.
 pub read-back : (s : State) → stateOf (wordsOf s) ≡ s
-read-back = hosts.state-read-back
+read-back = header.read-back
+
+pub written-back : (words : List ℕ) → length words ≡ 8 → wordsOf (stateOf words) ≡ words
+written-back = header.written-back
 
 pub words-are-eight : (s : State) → length (wordsOf s) ≡ 8
-words-are-eight = hosts.eight-words
+words-are-eight = header.words-are-eight
 
 -- What a host's calls do is a build as above, and each build is in its reach.
 pub is-a-build : (host : Host) (bound : ℕ) (lent : Tables) (given : List Float) (words : List ℕ) (t : Tables)
@@ -137,6 +141,10 @@ module _ (host : Host) (bound : ℕ) (lent : Tables) (given : List Float) (words
 
   pub word-of-the-end : getD words 3 0 ≡ 0 → (d : Float) (places : Request) → distanceEffect words d t places .said .number ≡ 9
   word-of-the-end = told .word-3-ends
+
+  -- Its finished tree is sound, and is read right by its calls for the list and for dual cells.
+  pub hosts-finished : getD words 3 0 ≡ 0 → Sound (treeIn words t) × Reading (finest bound) (treeIn words t) × HostsReading (finest bound) (treeIn words t)
+  hosts-finished = hosts.hosts-finished host bound lent given words t run
 
 -- A refused call changes no word, no place of the request and no table.
 pub refused-start : (bound k : ℕ) (t : Tables) (words words' : List ℕ) (places request : Request)
@@ -221,6 +229,11 @@ module _ (t : Tree) (sound : Sound t) (D : ℕ) (deep : D ≤ deepest) (fine : (
       × ((start : ℕ) (was left : Lists) (a : ListAnswer) → ListSays t start was left a → Room start (length vertices) was → a ≡ list.Count (length vertices))
       × ((start : ℕ) (was left : Lists) (a : ListAnswer) → ListSays t start was left a → (Room start (length vertices) was → ⊥) → a ≡ list.Refused 12)
   listed-by-room = (right .answered .vertices, right .answered .levels, right .answered .corners, right .answered .room, right .answered .no-room)
+
+  -- The dual cell of any inner vertex is found, unless the tree is the root alone.
+  pub dual-found : 1 < length (t .keys) → (v L : ℕ) → v < 2 ^ 64 → isInner L v ≡ true
+      → (keys : List ℕ) × (distances : List Float) × (tried : ℕ) × DualCell t L v keys distances tried
+  dual-found = right .found
 
   module _ (start n : ℕ) (was left : Lists) (says : ListSays t start was left (list.Count n)) where
     -- Every leaf corner strictly inside the cube is listed once,
