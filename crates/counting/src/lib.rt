@@ -141,7 +141,8 @@ fn drive(
         (outcome (startOf (getD (now (input .entry)) 0 0) (tablesOf (now (keys .entry)) (now (distances .entry)) (now (leaves .entry)) (now (queue .entry))))
         (tablesOf (now (keys .entry)) (now (distances .entry)) (now (leaves .entry)) (now (queue .entry)))) ⌝ }
 {
-    let mut answer = build::start(bound_of(input), keys, distances, leaves, queue);
+    let bound = bound_of(input);
+    let mut answer = build::start(bound, keys, distances, leaves, queue);
     let mut at = 1;
     loop {
         let Answer::Ask(_, s) = answer else {

@@ -14,12 +14,12 @@ abbrev Same : {A : Type 0} → List A → List A → Type 0
 Same xs ys = length xs ≡ length ys
 
 abbrev Inv-loop : tie.InvT-loop
-Inv-loop input keys₀ distances₀ leaves₀ queue₀ answer₀ at₀ keys distances leaves queue answer at =
+Inv-loop input keys₀ distances₀ leaves₀ queue₀ bound answer₀ at₀ keys distances leaves queue answer at =
     Same keys keys₀ × Same distances distances₀ × Same leaves leaves₀ × Same queue queue₀ × (at ≤ length input)
     × Going input (tablesOf keys₀ distances₀ leaves₀ queue₀) at answer (tablesOf keys distances leaves queue)
 
 abbrev μ-loop : tie.MeasureT-loop
-μ-loop input keys₀ distances₀ leaves₀ queue₀ answer₀ at₀ keys distances leaves queue answer at = length input - at
+μ-loop input keys₀ distances₀ leaves₀ queue₀ bound answer₀ at₀ keys distances leaves queue answer at = length input - at
 
 bound-of-requires : tie.Need-bound-of-requires Inv-loop μ-loop
 bound-of-requires c κs = search needs
