@@ -35,7 +35,8 @@ enum mittenhelm_refusal {
     MITTENHELM_NOTHING_ASKED = 9, /* the build is finished */
     MITTENHELM_NOT_FITTING = 10,  /* the state doesn't fit the tables */
     MITTENHELM_NOT_SOUND = 11,    /* not a sound tree */
-    MITTENHELM_LIST_FULL = 12     /* start place past the end of either table, or fewer places left than vertices */
+    MITTENHELM_LIST_FULL = 12,    /* start place past the end of either table, or fewer places left than vertices */
+    MITTENHELM_NOT_FINITE = 16    /* the distance is infinite or NaN */
 };
 
 /* The level of any number: 0 for 0, else the largest L with 8^L at most the number. */
@@ -72,7 +73,8 @@ bool mittenhelm_is_inner(uint64_t vertex, uint32_t level);
 /* The cell key of the level on side `which` (0 to 7) of an inner vertex. Refusals 2, 4. */
 uint32_t mittenhelm_side(uint64_t vertex, uint32_t level, uint32_t which, uint64_t *cell);
 
-/* Whether a distance splits an asked cell of the level under a depth bound; of a level above 21, which no cell has: false. */
+/* Whether a distance splits an asked cell of the level under a depth bound; of a distance that is infinite or NaN, which no build
+ * takes, or of a level above 21, which no cell has: false. */
 bool mittenhelm_should_refine(uint32_t level, uint32_t bound, float distance);
 
 /* A build asks for one distance at a time. The caller owns its state, eight words, and lends it four tables: the nodes'
@@ -105,7 +107,7 @@ uint32_t mittenhelm_start(uint32_t bound,
     uint64_t *key, float *x, float *y, float *z, float *half);
 
 /* Takes the distance of the cell that is asked for, and asks for the next one by its key, centre and half size; where none is
- * left, the state's asked key is 0 and the last five places stay as they were. Refusals 10, 9, 6, then 7 or 8. */
+ * left, the state's asked key is 0 and the last five places stay as they were. Refusals 10, 9, 16, 6, then 7 or 8. */
 uint32_t mittenhelm_distance(uint64_t *state, size_t state_length,
     uint64_t *keys, size_t keys_length, float *distances, size_t distances_length,
     uint64_t *leaves, size_t leaves_length, uint64_t *queue, size_t queue_length,
@@ -115,8 +117,8 @@ uint32_t mittenhelm_distance(uint64_t *state, size_t state_length,
 /* A finished tree is read from three tables that the caller owns and that no call changes: its keys, as many distances, and its
  * leaves, each exactly as long as the tree. Of a finished build with n nodes and m leaves these are the first n keys, the first n
  * distances and the first m leaves. A tree from elsewhere may have more than 4,096 nodes, and is read if it is sound: as many
- * keys as distances; keys strictly ascending, first 1, all cell keys of level at most 15; each other key's parent present;
- * each key with all eight children or none; the leaves being exactly the keys with none, ascending. */
+ * keys as distances; no distance infinite or NaN; keys strictly ascending, first 1, all cell keys of level at most 15; each other
+ * key's parent present; each key with all eight children or none; the leaves being exactly the keys with none, ascending. */
 
 /* Whether the tables hold a sound tree. */
 bool mittenhelm_sound(

@@ -178,6 +178,7 @@ impl Refusal {
             10 => "the state doesn't fit the tables",
             11 => "not a sound tree",
             12 => "start place past the end of a table, or no room for all vertices",
+            16 => "the distance is infinite or NaN",
             _ => "a number that this wrapper doesn't know",
         }
     }
@@ -266,7 +267,7 @@ pub fn side(vertex: u64, level: u32, which: u32) -> Result<u64, Refusal> {
     accepted(number, cell)
 }
 
-/// Whether a distance splits an asked cell of the level under a depth bound.
+/// Whether a distance splits an asked cell of the level under a depth bound; one that isn't finite splits none.
 pub fn should_refine(level: u32, bound: u32, distance: f32) -> bool {
     unsafe { raw::mittenhelm_should_refine(level, bound, distance) != 0 }
 }
@@ -361,7 +362,8 @@ pub fn start(bound: u32, tables: &Tables) -> Result<(State, Request), Refusal> {
     accepted(number, (State(state), Request { key, centre: [x, y, z], half }))
 }
 
-/// Takes the distance of the cell that is asked for, and says which is asked for next; none, where the build is finished.
+/// Takes the distance of the cell that is asked for, and says which is asked for next; none, where the build is finished. One that
+/// isn't finite is refused like all else that is: the state and the tables stay, and the same cell is asked for.
 #[inline]
 pub fn distance(state: &mut State, tables: &mut Tables, distance: f32) -> Result<Option<Request>, Refusal> {
     let (mut key, [mut x, mut y, mut z, mut half]) = (0, [0.0; 4]);
@@ -467,8 +469,9 @@ fn around(dual_cell: impl FnOnce(&mut [u64; 8], &mut [f32; 8], &mut u32) -> u32)
 }
 
 impl<'a> Tree<'a> {
-    /// Whether the tree is sound: as many keys as distances; keys strictly ascending, first 1, all cell keys of level at most 15;
-    /// each other key's parent present; each key with all eight children or none; the leaves exactly those with none, ascending.
+    /// Whether the tree is sound: as many keys as distances; each distance finite; keys strictly ascending, first 1, all cell keys of
+    /// level at most 15; each other key's parent present; each key with all eight children or none; the leaves exactly those with none,
+    /// ascending.
     #[inline]
     pub fn sound(&self) -> bool {
         let sound = with_tree!(mittenhelm_sound, self);
@@ -576,7 +579,10 @@ mod tests {
         assert_eq!(told(1), "refused 1: not a cell key");
         assert_eq!(told(10), "refused 10: the state doesn't fit the tables");
         assert_eq!(told(11), "refused 11: not a sound tree");
+        assert_eq!(told(16), "refused 16: the distance is infinite or NaN");
         assert!((1..=12).all(|number| !told(number).contains("doesn't know")));
-        assert_eq!(told(99), "refused 99: a number that this wrapper doesn't know");
+        for number in [13, 15, 99] {
+            assert_eq!(told(number), format!("refused {number}: a number that this wrapper doesn't know"));
+        }
     }
 }
