@@ -60,7 +60,7 @@ fn climb(octree: &Octree, mut key: Morton) -> u64 {
     0
 }
 
-/// Hands out distances one after another. A tree that takes more than there are finds NaNs, which don't split.
+/// Hands out distances one after another. A tree that takes more than there are finds the greatest, which doesn't split.
 #[cfg(published_text)]
 struct Ready<'a> {
     distances: &'a [f32],
@@ -76,6 +76,6 @@ impl<'a> source::Source for Ready<'a> {
         unsafe { ptr::write_volatile(self.point.as_ptr(), math::Vec3::new(x, y, z)) };
         let asked = self.asked.get();
         self.asked.set(asked + 1);
-        self.distances.get(asked).cloned().unwrap_or(f32::NAN)
+        self.distances.get(asked).cloned().unwrap_or(f32::MAX)
     }
 }

@@ -18,7 +18,7 @@ fn place(keys: &[u64], random: &mut Random) -> usize {
 fn insert(tables: &mut Tables, key: u64) {
     let place = tables.keys.binary_search(&key).expect_err("a new key");
     tables.keys.insert(place, key);
-    tables.distances.insert(place, key as u32);
+    tables.distances.insert(place, place as u32);
 }
 
 fn insert_leaf(tables: &mut Tables, key: u64) {
@@ -46,6 +46,18 @@ fn split(tables: &mut Tables, leaf: u64, children: impl Iterator<Item = u64>) {
     }
 }
 
+/// A node that is no leaf.
+fn split_node(tables: &Tables, random: &mut Random) -> Option<u64> {
+    one_of(&tables.keys, random, |key| tables.leaves.binary_search(&key).is_err())
+}
+
+/// Puts an infinity or a NaN beside a key.
+fn break_distance(tables: &mut Tables, key: u64, random: &mut Random) -> Option<()> {
+    let place = tables.keys.binary_search(&key).ok()?;
+    tables.distances[place] = random.broken_distance().to_bits();
+    Some(())
+}
+
 fn swap_neighbours<T>(table: &mut [T], random: &mut Random) -> Option<()> {
     let at = random.below(table.len().checked_sub(1).filter(|&pairs| pairs > 0)? as u64) as usize;
     table.swap(at, at + 1);
@@ -55,7 +67,7 @@ fn swap_neighbours<T>(table: &mut [T], random: &mut Random) -> Option<()> {
 /// A way to break one condition and no other, as far as the others let it; none, where the tree has nothing to break.
 pub type Break = fn(&mut Tables, &mut Random) -> Option<()>;
 
-pub const BREAKS: [(&str, Break); 24] = [
+pub const BREAKS: [(&str, Break); 28] = [
     ("a distance too few", |tables, _| tables.distances.pop().map(|_| ())),
     ("a distance too many", |tables, random| {
         tables.distances.resize(tables.keys.len() + 1 + random.below(9) as usize, 0);
@@ -64,6 +76,16 @@ pub const BREAKS: [(&str, Break); 24] = [
     ("no distances", |tables, _| {
         tables.distances.clear();
         Some(())
+    }),
+    ("the root's distance broken", |tables, random| break_distance(tables, 1, random)),
+    ("the last distance broken", |tables, random| break_distance(tables, *tables.keys.last()?, random)),
+    ("a leaf's distance broken", |tables, random| {
+        let leaf = one_of(&tables.leaves, random, |_| true)?;
+        break_distance(tables, leaf, random)
+    }),
+    ("a split node's distance broken", |tables, random| {
+        let node = split_node(tables, random)?;
+        break_distance(tables, node, random)
     }),
     ("two keys swapped", |tables, random| swap_neighbours(&mut tables.keys, random)),
     ("a leaf twice among the keys", |tables, random| {
@@ -167,8 +189,7 @@ pub const BREAKS: [(&str, Break); 24] = [
         Some(())
     }),
     ("a split node among the leaves", |tables, random| {
-        let leaves = tables.leaves.clone();
-        let node = one_of(&tables.keys, random, |key| leaves.binary_search(&key).is_err())?;
+        let node = split_node(tables, random)?;
         insert_leaf(tables, node);
         Some(())
     }),
@@ -185,9 +206,8 @@ pub const BREAKS: [(&str, Break); 24] = [
     }),
     ("two leaves swapped", |tables, random| swap_neighbours(&mut tables.leaves, random)),
     ("a split node instead of a leaf", |tables, random| {
-        let leaves = tables.leaves.clone();
-        let node = one_of(&tables.keys, random, |key| leaves.binary_search(&key).is_err())?;
-        let leaf = one_of(&leaves, random, |_| true)?;
+        let node = split_node(tables, random)?;
+        let leaf = one_of(&tables.leaves, random, |_| true)?;
         remove_leaf(tables, leaf);
         insert_leaf(tables, node);
         Some(())

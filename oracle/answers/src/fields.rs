@@ -96,7 +96,7 @@ pub fn field(kind: Kind, bound: u32, random: &mut Random) -> Box<Field> {
         // The last few cells of each level are split, so that a short queue serves for all that passes through it.
         Kind::FarCorner => {
             let few = 1 + random.below(6);
-            by_key(move |key| if last_cell(model::level(key)) - key < few { -0.0 } else { f32::INFINITY })
+            by_key(move |key| if last_cell(model::level(key)) - key < few { -0.0 } else { f32::MAX })
         }
         // One cell of each level is split, often the first or one of the next.
         Kind::Path => {
@@ -130,7 +130,7 @@ pub fn field(kind: Kind, bound: u32, random: &mut Random) -> Box<Field> {
                 noise.signed(distance)
             })
         }
-        // Zeros, subnormals, edges of other levels, great numbers, infinities and NaNs.
+        // Zeros, subnormals, edges of other levels, and great numbers up to the greatest.
         Kind::Odd => {
             let (seed, splitting) = (random.bits(), splitting(bound, random));
             by_key(move |key| {
@@ -139,8 +139,9 @@ pub fn field(kind: Kind, bound: u32, random: &mut Random) -> Box<Field> {
                 let bits = if noise.below(1000) < splitting {
                     [0, 1, noise.below(0x0080_0000) as u32, 0x0080_0000, split_edge(level + 1).to_bits()][noise.below(5) as usize]
                 } else {
-                    let nan = 0x7f80_0001 + noise.below(0x007f_ffff) as u32;
-                    [0x7f80_0000, nan, nan, 0x7fc0_0000, 0x7f7f_ffff, split_edge(level - 1).to_bits()][noise.below(6) as usize]
+                    let (edge, greatest) = (split_edge(level - 1).to_bits(), f32::MAX.to_bits());
+                    let great = edge + noise.below((greatest - edge) as u64) as u32;
+                    [greatest, great, great, greatest - 1, 0x7f00_0000, edge][noise.below(6) as usize]
                 };
                 noise.signed(f32::from_bits(bits))
             })
@@ -205,7 +206,7 @@ fn constant(bound: u32, random: &mut Random) -> f32 {
     let deepest = if random.below(4) == 0 { 3 } else { 2 };
     let [below, edge, above] = around_split_edge(random.below(deepest + 1) as i32);
     let small = [0.0, f32::from_bits(1), f32::MIN_POSITIVE][random.below(3) as usize];
-    let great = [1.0, f32::MAX, f32::INFINITY, f32::NAN][random.below(4) as usize];
+    let great = [1.0, f32::MAX, 3.0e9, 1.0e38][random.below(4) as usize];
     let distance = match random.below(5) {
         0 if bound <= 4 => small,
         1 => great,
@@ -252,6 +253,7 @@ fn wave(t: f32) -> f32 {
 #[cfg(test)]
 mod tests {
     use super::*;
+    use crate::trees::Tree;
 
     #[test]
     fn a_centre_tells_its_cell() {
@@ -259,6 +261,17 @@ mod tests {
         for _ in 0..100_000 {
             let key = random.cell();
             assert_eq!(model::centre(key).map(cell_at), Ok(key));
+        }
+    }
+
+    /// No build takes another one.
+    #[test]
+    fn every_distance_is_finite() {
+        for (kind, bound) in KINDS.into_iter().flat_map(|kind| (0..16).map(move |bound| (kind, bound))) {
+            for seed in 0..4 {
+                let tree = Tree::by_rule(bound, &*field(kind, bound, &mut Random::new(seed)));
+                assert!(tree.nodes.iter().all(|node| node.distance.is_finite()), "{kind:?}, bound {bound}");
+            }
         }
     }
 

@@ -122,6 +122,22 @@ impl Random {
         f32::from_bits(bits ^ sign)
     }
 
+    /// A distance that no build takes: an infinity or a NaN of any bits, either sign.
+    pub fn broken_distance(&mut self) -> f32 {
+        let bits = match self.below(2) {
+            0 => self.one_of(&BROKEN_DISTANCES),
+            _ => self.bits() as u32 | EXPONENT,
+        };
+        f32::from_bits(bits)
+    }
+
+    /// The bits of any finite distance.
+    pub fn finite_bits(&mut self) -> u32 {
+        let bits = self.bits() as u32;
+        // The exponent loses its last bit.
+        bits ^ if bits & EXPONENT == EXPONENT { 1 << 23 } else { 0 }
+    }
+
     /// From 0 up to less than 1.
     pub fn fraction(&mut self) -> f32 {
         self.below(1 << 24) as f32 / (1 << 24) as f32
@@ -146,6 +162,27 @@ impl Random {
         }
     }
 }
+
+/// The bits of an f32's exponent, which are all ones in an infinity and in a NaN.
+const EXPONENT: u32 = 0x7f80_0000;
+
+/// The bits of distances that no build takes: infinities, then quiet and signalling NaNs with the least and the most bits, each with both
+/// signs.
+pub const BROKEN_DISTANCES: [u32; 10] = [
+    0x7f80_0000,
+    0xff80_0000,
+    0x7fc0_0000,
+    0xffc0_0000,
+    0x7f80_0001,
+    0xff80_0001,
+    0x7fbf_ffff,
+    0xffbf_ffff,
+    0x7fff_ffff,
+    0xffff_ffff,
+];
+
+/// The finite distances next to the infinities.
+pub const GREATEST_DISTANCES: [f32; 2] = [f32::MAX, f32::MIN];
 
 /// The greatest distance at which a cell of the level is split: 14529495 / 2^(24 + L).
 pub fn split_edge(level: i32) -> f32 {
@@ -206,5 +243,27 @@ mod tests {
             assert_eq!(model::level(last_cell(level)), level);
             assert!(model::is_cell(last_cell(level)) && !model::is_cell(last_cell(level).wrapping_add(1)));
         }
+    }
+
+    /// By the language's own test too, which the model doesn't use.
+    #[test]
+    fn distances_are_finite_or_broken_as_they_should_be() {
+        let (mut random, mut seen) = (Random::new(2), [0; 4]);
+        let is_finite = |distance: f32| {
+            assert_eq!(model::is_finite(distance), distance.is_finite(), "{:#x}", distance.to_bits());
+            distance.is_finite()
+        };
+        for bits in BROKEN_DISTANCES {
+            assert!(!is_finite(f32::from_bits(bits)));
+        }
+        for _ in 0..100_000 {
+            let broken = random.broken_distance();
+            assert!(!is_finite(broken) && is_finite(f32::from_bits(random.finite_bits())));
+            seen[broken.is_nan() as usize + 2 * broken.is_sign_negative() as usize] += 1;
+        }
+        for greatest in GREATEST_DISTANCES {
+            assert!(is_finite(greatest) && !is_finite(f32::from_bits(greatest.to_bits() + 1)));
+        }
+        assert!(seen.iter().all(|&seen| seen > 1000), "{seen:?}");
     }
 }

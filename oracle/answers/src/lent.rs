@@ -86,7 +86,7 @@ pub fn places_before(length: usize) -> Vec<usize> {
     (0..length).map(|place| usize::MAX - place).collect()
 }
 
-/// No promise settles the bits of a NaN: one stands for all.
+/// No promise settles the bits of a NaN, which calls that trust a tree hand on: one stands for all.
 pub fn one_nan(bits: u32) -> u32 {
     if f32::from_bits(bits).is_nan() {
         f32::NAN.to_bits()

@@ -20,7 +20,8 @@ use std::env;
 use std::io::{self, Write};
 use std::sync::Once;
 
-/// The split rule by f32 operations, as the published text has it, with a half size that the text computed.
+/// The split rule by f32 operations, as the published text has it, with a half size that the text computed. Ours is another of distances
+/// that aren't finite.
 pub fn splits_in_f32(level: u32, bound: u32, distance: f32, half_size: f32) -> bool {
     const SQRT_OF_3: f32 = 14529495.0 / 8388608.0;
     level < 2 || (level < bound && distance.abs() <= half_size * SQRT_OF_3)

@@ -172,13 +172,21 @@ pub fn side(vertex: u64, level: u32, which: u32) -> Answer<u64> {
 /// `SQRT_OF_3` as f32 is this, over 2^23.
 const ROOT_OF_3: u128 = 14529495;
 
-/// Whether |d| is at most 14529495 / 2^23 / 2^(L+1), compared as whole numbers.
+/// The bits of a float's exponent.
+fn exponent(float: f32) -> u32 {
+    float.to_bits() >> 23 & 0xff
+}
+
+/// Neither an infinity nor a NaN: their exponents are all ones.
+pub fn is_finite(distance: f32) -> bool {
+    exponent(distance) != 0xff
+}
+
+/// Whether |d| is at most 14529495 / 2^23 / 2^(L+1), compared as whole numbers; of a finite d.
 fn is_near(level: u32, distance: f32) -> bool {
-    let bits = distance.to_bits();
-    let (exponent, fraction) = (bits >> 23 & 0xff, bits & 0x7f_ffff);
+    let fraction = distance.to_bits() & 0x7f_ffff;
     // |d| is whole / 2^149, times 2^shift.
-    let (whole, shift) = match exponent {
-        0xff => return false,
+    let (whole, shift) = match exponent(distance) {
         0 => (fraction as u128, 0),
         e => (fraction as u128 + (1 << 23), e - 1),
     };
@@ -195,7 +203,7 @@ fn is_near(level: u32, distance: f32) -> bool {
     }
 }
 
-/// L < 2, or L < bound and |d| <= half size times the root; never for a level that no cell has.
+/// L < 2, or L < bound and |d| <= half size times the root; never for a distance that isn't finite, nor for a level that no cell has.
 pub fn should_refine(level: u32, bound: u32, distance: f32) -> bool {
-    level <= DEEPEST && (level < 2 || (level < bound && is_near(level, distance)))
+    level <= DEEPEST && is_finite(distance) && (level < 2 || (level < bound && is_near(level, distance)))
 }

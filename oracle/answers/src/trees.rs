@@ -132,7 +132,7 @@ pub enum Growth {
 pub const GROWTHS: [Growth; 3] = [Growth::Even, Growth::Any, Growth::Deep];
 
 /// A sound tree of so many splits, no level above the deepest: the root alone too, and others that no build makes. Its distances
-/// are any bits, and odd ones.
+/// are any finite ones, and odd ones.
 pub fn grown(growth: Growth, splits: usize, deepest: u32, random: &mut Random) -> Tables {
     let (mut split, mut open, mut shut) = (Vec::new(), VecDeque::from([1]), Vec::new());
     while let Some(last) = open.len().checked_sub(1).filter(|_| split.len() < splits) {
@@ -153,7 +153,7 @@ pub fn grown(growth: Growth, splits: usize, deepest: u32, random: &mut Random) -
     leaves.sort_unstable();
     let mut keys: Vec<u64> = split.into_iter().chain(leaves.iter().copied()).collect();
     keys.sort_unstable();
-    let distances = keys.iter().map(|_| if random.below(4) == 0 { odd(random) } else { random.bits() as u32 }).collect();
+    let distances = keys.iter().map(|_| if random.below(4) == 0 { odd(random) } else { random.finite_bits() }).collect();
     Tables { keys, distances, leaves }
 }
 
@@ -164,7 +164,7 @@ pub fn small(random: &mut Random) -> Tables {
     grown(growth, splits as usize, [15, 15, 3][random.below(3) as usize], random)
 }
 
-/// The bits of a zero, a subnormal, an infinity, a NaN or the greatest number, of either sign.
+/// The bits of a zero, of the least and the greatest subnormal, of the number above that or of the greatest, of either sign.
 fn odd(random: &mut Random) -> u32 {
-    [0, 1, 0x7f80_0000, 0x7fc0_0000, 0x7f7f_ffff][random.below(5) as usize] | (random.bits() as u32) << 31
+    [0, 1, 0x007f_ffff, 0x0080_0000, 0x7f7f_ffff][random.below(5) as usize] | (random.bits() as u32) << 31
 }

@@ -1,7 +1,7 @@
 //! Document 01, "Building, one request at a time": start and distance for every state and all tables, step by step in its words.
 //! What is calculated with a state's words is i128, so that no forged number is too great.
 
-use super::{centre, child, half_size, is_cell, level, should_refine, Answer};
+use super::{centre, child, half_size, is_cell, is_finite, level, should_refine, Answer};
 
 /// What is lent. Distances are bits here, so that two NaNs can be told apart.
 #[derive(Clone, Debug, Default, PartialEq, Eq)]
@@ -112,6 +112,9 @@ pub fn distance(state: &mut [u64], tables: &mut Tables, distance: f32) -> Answer
     let (bound, n, m, asked) = (state[0], state[1] as i128, state[2] as i128, state[3]);
     if asked == 0 {
         return Err(9);
+    }
+    if !is_finite(distance) {
+        return Err(16);
     }
     if n == tables.node_room() {
         return Err(6);

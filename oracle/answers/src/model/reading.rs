@@ -3,7 +3,8 @@
 
 use super::build::{self, STATE_WORDS};
 use super::{
-    cell, coordinates, corner_bit, every_third_bit, is_cell, is_inner, level, power_of_8, side, vertex, Answer, DEEPEST,
+    cell, coordinates, corner_bit, every_third_bit, is_cell, is_finite, is_inner, level, power_of_8, side, vertex, Answer,
+    DEEPEST,
 };
 use std::collections::{BTreeMap, BTreeSet};
 
@@ -53,6 +54,9 @@ fn children(key: u64) -> impl Iterator<Item = u64> {
 impl Tables {
     pub fn is_sound(&self) -> bool {
         if self.keys.len() != self.distances.len() {
+            return false;
+        }
+        if !self.distances.iter().all(|&bits| is_finite(f32::from_bits(bits))) {
             return false;
         }
         if !ascends(&self.keys) || self.keys.first() != Some(&1) {
