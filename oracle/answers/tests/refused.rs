@@ -1,5 +1,9 @@
 //! What the published text answers, in its release build, where our calls refuse. docs/DIFFERENCES.md tells it.
 
+use oracle_answers::fields::cell_at;
+use oracle_answers::inputs::BROKEN_DISTANCES;
+use oracle_answers::model::build::{self, Tables, STATE_WORDS};
+use oracle_answers::trees::{Field, Tree};
 use oracle_answers::{compares_with_text, model, published};
 
 #[test]
@@ -25,4 +29,39 @@ fn where_we_refuse_the_rust_answers_something() {
     assert_eq!((model::side(1 << 63, 1, 7), published::dual_vertex(1 << 63, 1, 7)), (Err(4), 0x6db6_db6d_b6db_6db7));
     assert_eq!((model::side(15 << 60, 0, 7), published::dual_vertex(15 << 60, 0, 7)), (Err(4), 0x6db6_db6d_b6db_6db6));
     assert_eq!((model::side(15 << 60, 1, 8), published::dual_vertex(15 << 60, 1, 8)), (Err(2), 7));
+}
+
+/// The refusal of the first distance that is refused in a build with room, and the key that is then asked for.
+fn refused(bound: u32, field: &Field) -> Option<(u32, u64)> {
+    let (mut state, mut tables) = ([0; STATE_WORDS], Tables::of([1000; 4]));
+    let mut asked = build::start(bound, &tables, &mut state).map(Some);
+    while let Ok(Some(request)) = asked {
+        asked = build::distance(&mut state, &mut tables, field(request.centre));
+    }
+    asked.err().map(|refusal| (refusal, state[3]))
+}
+
+/// A distance that is infinite or NaN: the text splits as ever at level 0 and 1, and from level 2 on makes the cell a leaf, however near
+/// the others are.
+#[test]
+fn a_broken_distance_is_a_leaf_of_the_rust() {
+    if !compares_with_text() {
+        return;
+    }
+    let near: &Field = &|_| 0.0;
+    let whole = Tree::by_integer(3, near);
+    for bits in BROKEN_DISTANCES {
+        for broken in [1, 9, 70, 127, 520] {
+            let field: &Field = &move |p| if cell_at(p) == broken { f32::from_bits(bits) } else { 0.0 };
+            assert_eq!(refused(3, field), Some((16, broken)), "{bits:#x} for {broken}");
+            for theirs in [Tree::by_integer(3, field), Tree::by_published(3, field)] {
+                let kept = theirs.place_of(broken).map(|place| theirs.nodes[place].distance.to_bits());
+                assert_eq!(kept, Some(bits), "{bits:#x} for {broken}");
+                assert_eq!(theirs.is_leaf(broken), broken >= 64, "{bits:#x} for {broken}");
+            }
+            let lost = if (64..128).contains(&broken) { 8 } else { 0 };
+            assert_eq!(Tree::by_integer(3, field).nodes.len(), whole.nodes.len() - lost);
+        }
+    }
+    assert_eq!(refused(3, near), None);
 }
