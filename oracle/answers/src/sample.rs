@@ -3,8 +3,8 @@
 //! has no answer, the model has it; where both have one, they must agree.
 //!
 //! A line is `OP A B C ST X Y Z`: call, three parameters, refusal (00: accepted) and three results, in hexadecimal. What a call
-//! doesn't use is 0, and so are the results of a refusal. Floats are bit patterns, a NaN being 7fc00000: no other pattern of one
-//! compares equal.
+//! doesn't use is 0, and so are the results of a refusal. Floats are bit patterns. No result is a NaN, whose patterns a program couldn't
+//! tell apart.
 
 mod builds;
 mod keys;

@@ -26,6 +26,19 @@ fn the_parts_are_the_generated_sample() {
     assert!(fresh.lines().all(|line| line.len() == 107));
 }
 
+/// Each refusal of a distance has lines enough.
+#[test]
+fn lines_of_refused_distances() {
+    if !compares_with_text() {
+        return;
+    }
+    let text = sample::text();
+    for refusal in ["06", "07", "08", "09", "10"] {
+        let refused = text.lines().filter(|line| line.starts_with("0d") && &line[54..56] == refusal);
+        assert!(refused.count() > 6, "refusal {refusal}");
+    }
+}
+
 /// Each call that reads a tree has lines enough, and so has each of its refusals.
 #[test]
 fn lines_that_read_a_tree() {

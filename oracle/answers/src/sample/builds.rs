@@ -3,7 +3,7 @@
 
 use super::lines::Sample;
 use crate::fields::cell_at;
-use crate::inputs::{around_split_edge, first_cell, last_cell};
+use crate::inputs::{around_split_edge, first_cell, last_cell, BROKEN_DISTANCES, GREATEST_DISTANCES};
 use crate::model::build::{self, Request, Tables, STATE_WORDS};
 use crate::model::{level, Answer};
 use crate::trees::{Field, Tree};
@@ -16,8 +16,8 @@ const PLACE_OF_DISTANCES: u8 = 0x0f;
 /// The places that a table has, lent or not.
 const IN_ALL: usize = 1024;
 
-/// The bits of the one NaN that a Rattle program reads.
-const NAN: u32 = 0x7fc0_0000;
+/// Both infinities and a NaN.
+const SOME_BROKEN: [u32; 3] = [BROKEN_DISTANCES[0], BROKEN_DISTANCES[1], BROKEN_DISTANCES[2]];
 
 /// A build under way, and the tree that the text has for the same field.
 struct Build {
@@ -83,19 +83,29 @@ impl Sample {
         answer.map(|_| ())
     }
 
-    /// Distances from the field, to the end or up to a refusal, which comes again for the same distance.
+    /// Broken distances, each refused, so that all stays as it was.
+    fn broken(&mut self, build: &mut Build, bits: &[u32], refusal: u32) {
+        for &bits in bits {
+            assert_eq!(self.distance(build, f32::from_bits(bits)), Err(refusal));
+        }
+    }
+
+    /// Distances from the field, to the end or up to a refusal, which comes again for the same distance. A broken one is told of before
+    /// a room that is too short, and after a build that is finished.
     fn go_on(&mut self, build: &mut Build, field: &Field) -> Answer<()> {
         while !build.is_finished() {
             let [n, _] = build.so_far();
             let distance = field(build.tree.nodes[n].request.centre);
             if let Err(refusal) = self.distance(build, distance) {
+                self.broken(build, &SOME_BROKEN, 16);
                 assert_eq!(self.distance(build, distance), Err(refusal));
                 return Err(refusal);
             }
         }
-        for distance in [0.0, 1.0, f32::from_bits(NAN)] {
+        for distance in [0.0, 1.0] {
             assert_eq!(self.distance(build, distance), Err(9));
         }
+        self.broken(build, &SOME_BROKEN, 9);
         Ok(())
     }
 
@@ -134,6 +144,7 @@ impl Sample {
         assert_eq!(self.build(15, [1024; 4], far, [0, 63, 64, 72, 73, 1023].into_iter()), Ok(()));
         self.rings();
         self.odd_distances();
+        self.broken_distances();
     }
 
     /// Document 01's examples.
@@ -181,15 +192,16 @@ impl Sample {
             let distance = at_66(build.tree.nodes[build.so_far()[0]].request.centre);
             assert_eq!(self.distance(&mut build, distance), Ok(()));
         }
-        assert_eq!(self.distance(&mut build, 1.0), Err(7));
-        assert_eq!(self.distance(&mut build, f32::from_bits(NAN)), Err(7));
+        for far in [1.0, f32::MAX] {
+            assert_eq!(self.distance(&mut build, far), Err(7));
+        }
         assert_eq!(self.go_on(&mut build, at_66), Err(7));
         self.places(&build, (0..20).chain(62..80));
     }
 
     /// A ring of 64 through which many more go, and one of an odd length; the first cells, where the published level is wrong.
     fn rings(&mut self) {
-        let last: &Field = &|p| if last_cell(level(cell_at(p))) - cell_at(p) < 3 { 0.0 } else { f32::INFINITY };
+        let last: &Field = &|p| if last_cell(level(cell_at(p))) - cell_at(p) < 3 { 0.0 } else { f32::MAX };
         assert_eq!(self.build(15, [385, 385, 337, 64], last, (0..64).step_by(3).chain([336, 337, 384, 385])), Ok(()));
         let first: &Field = &|p| if cell_at(p) == first_cell(level(cell_at(p))) { -0.0 } else { -2.0 };
         assert_eq!(self.build(15, [177, 177, 155, 77], first, (0..77).step_by(4).chain([154, 155, 176, 177])), Ok(()));
@@ -198,15 +210,31 @@ impl Sample {
     fn odd_distances(&mut self) {
         let odd: &Field = &|p| {
             let [below, edge, above] = around_split_edge(level(cell_at(p)) as i32).map(f32::to_bits);
-            let bits = [NAN, 0, 1, 0x007f_ffff, 0x0080_0000, 0x7f80_0000, 0x7f7f_ffff, below, edge, above, 0x3f80_0000];
+            let bits = [0x7f7f_fffe, 0, 1, 0x007f_ffff, 0x0080_0000, 0x7f00_0000, 0x7f7f_ffff, below, edge, above, 0x3f80_0000];
             let which = cell_at(p) as usize % 22;
-            // All but the NaN with both signs.
-            let sign = if which > 11 { 1 << 31 } else { 0 };
+            let sign = if which > 10 { 1 << 31 } else { 0 };
             f32::from_bits(bits[which % 11] | sign)
         };
         let tree = Tree::by_integer(3, odd);
         let [nodes, distances, leaves, queue] = tree.needs();
         assert_eq!(self.build(3, [nodes, distances, leaves, queue], odd, (0..72).chain([nodes - 1])), Ok(()));
         assert_eq!(self.build(3, [nodes, distances, leaves, queue - 1], odd, [0, 9].into_iter()), Err(8));
+    }
+
+    /// A cell of each level, one that would be split and others that wouldn't, is given every broken distance: nothing changes, and the
+    /// build goes on with the greatest distances, which are next to those.
+    fn broken_distances(&mut self) {
+        let at_64: &Field = &|p| if cell_at(p) == 64 { -0.0 } else { GREATEST_DISTANCES[cell_at(p) as usize % 2] };
+        let mut build = self.start(3, [81, 81, 71, 71], at_64);
+        for node in 0..81 {
+            if [0, 1, 8, 9, 10, 72, 73, 80].contains(&node) {
+                self.broken(&mut build, &BROKEN_DISTANCES, 16);
+                self.places(&build, [node].into_iter());
+            }
+            let distance = at_64(build.tree.nodes[node].request.centre);
+            assert_eq!(self.distance(&mut build, distance), Ok(()));
+        }
+        assert_eq!(self.go_on(&mut build, at_64), Ok(()));
+        self.places(&build, [0, 1, 8, 9, 10, 62, 63, 70, 71, 72, 80, 81].into_iter());
     }
 }

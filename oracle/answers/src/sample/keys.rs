@@ -83,7 +83,7 @@ impl Sample {
 
     fn should_refine(&mut self, level: u32, bound: u32, distance: f32) {
         let splits = model::should_refine(level, bound, distance);
-        if level <= DEEPEST {
+        if level <= DEEPEST && distance.is_finite() {
             let half_size = integer::size(last_cell(level));
             assert_eq!(
                 splits,
@@ -220,6 +220,7 @@ impl Sample {
             self.should_refine(2, 3, distance);
             self.should_refine(2, 2, distance);
             self.should_refine(1, 0, distance);
+            self.should_refine(0, 15, distance);
         }
         for level in [23, 32, u32::MAX] {
             self.should_refine(level, u32::MAX, 0.0);

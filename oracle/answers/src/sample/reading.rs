@@ -17,7 +17,7 @@
 //! that answers nothing has key and distance 0.
 
 use super::lines::Sample;
-use crate::inputs::{first_cell, last_cell};
+use crate::inputs::{first_cell, last_cell, BROKEN_DISTANCES, GREATEST_DISTANCES};
 use crate::integer;
 use crate::model::reading::{slab, Lookup, Reading, Tables};
 use crate::model::{level, vertex};
@@ -40,7 +40,7 @@ fn tree(split: &[u64]) -> Tables {
     let mut keys: Vec<u64> = split.iter().flat_map(|key| (0..8).map(move |child| 8 * key + child)).collect();
     keys.push(1);
     keys.sort_unstable();
-    let odd = [0x8000_0000, 0x7fc0_0000, 0, 1, 0x7f80_0000, 0xff80_0000, 0x8000_0001, 0x7f7f_ffff];
+    let odd = [0x8000_0000, 0x7f7f_ffff, 0, 1, 0x007f_ffff, 0x8080_0000, 0x8000_0001, 0xff7f_ffff];
     let distance = |place: usize| odd.get(place).copied().unwrap_or_else(|| (place as f32 - 40.5).to_bits());
     let leaves = keys.iter().copied().filter(|key| !split.contains(key)).collect();
     Tables { distances: (0..keys.len()).map(distance).collect(), keys, leaves }
@@ -226,6 +226,22 @@ impl Sample {
             self.put_at(&nine, place);
         }
         assert!(self.sound(&nine));
+        for bits in BROKEN_DISTANCES {
+            self.broken_at(&nine, 4, bits);
+        }
+    }
+
+    /// A distance that isn't finite at one place: no call that checks the tree reads it. With the greatest distances there it is sound
+    /// again.
+    fn broken_at(&mut self, put: &Put, place: usize, bits: u32) {
+        let changed = self.change(put, place, |tables| tables.distances[place] = bits);
+        assert!(!self.sound(&changed));
+        self.look_up(&changed, 64);
+        assert!(!self.list(&changed, 0, [0, 0], [].into_iter()) && !self.dual_cell(&changed, MIDDLE, 1, [0].into_iter()));
+        let greatest = GREATEST_DISTANCES[(bits >> 31) as usize].to_bits();
+        let changed = self.change(put, place, |tables| tables.distances[place] = greatest);
+        assert!(self.sound(&changed));
+        self.put_at(put, place);
     }
 
     /// Document 01's tree of 81 nodes, with its dual cells.
@@ -248,6 +264,10 @@ impl Sample {
             let other = put.of_lengths(more);
             assert!(!self.sound(&other));
             self.look_up(&other, 64);
+        }
+        // The root's, a split node's, a leaf's and the last.
+        for (place, bits) in [0, 9, 40, 80].into_iter().zip(BROKEN_DISTANCES) {
+            self.broken_at(&put, place, bits);
         }
     }
 
