@@ -27,9 +27,9 @@ impl Fault {
         Fault { words: words.to_string(), status: FAILED }
     }
 
-    /// A refusal, and lines that tell more of it.
+    /// A refusal, and what tells more of it, on its line or on others.
     pub fn refusal(refusal: Refusal, more: &str) -> Self {
-        Fault { words: format!("{refusal}\n{more}"), status: FAILED }
+        Fault { words: format!("{refusal}{more}"), status: FAILED }
     }
 
     pub fn status(&self) -> u8 {

@@ -25,7 +25,7 @@ pub fn run(words: &[OsString]) -> Result<(), Fault> {
     let mut progress = Progress::new();
     let part = Part::find(word, &mut progress)?;
     let mut lent = Lent::new(cut.nodes);
-    let built = Built::new(&part, cut.bound, lent.tables(), &mut progress)?;
+    let built = Built::new(|point| part.distance(point), cut.bound, lent.tables(), &mut progress)?;
     let reading = Reading::new(&built.tree(), cut.exponent, &mut progress)?;
     drop(progress);
 
