@@ -141,9 +141,6 @@ fn give(case: &mut Case, forged: &mut Forged, distance: f32) -> Result<Answer<Op
         )
     };
     let expected = build::distance(&mut forged.words, &mut forged.tables, distance);
-    if expected.is_ok() && distance.is_nan() {
-        keep_nan(forged, &lent, before.words[1] as usize);
-    }
     let way = |next: Option<Request>| match next {
         None => "finished",
         _ if forged.words[2] == before.words[2] => "split",
@@ -155,11 +152,15 @@ fn give(case: &mut Case, forged: &mut Forged, distance: f32) -> Result<Answer<Op
     Ok(expected)
 }
 
-/// Which NaN is stored isn't settled: any is right.
-fn keep_nan(forged: &mut Forged, lent: &Lent, place: usize) {
-    let kept = lent.distances.part()[place];
-    if f32::from_bits(kept).is_nan() {
-        forged.tables.distances[place] = kept;
+/// The refusal of a distance that is infinite or NaN.
+const BROKEN: u32 = 16;
+
+/// A distance for a cell of the level: any, also next to the infinities, or a broken one.
+fn some_distance(level: u32, random: &mut Random) -> f32 {
+    if random.below(8) == 0 {
+        random.broken_distance()
+    } else {
+        random.distance(level)
     }
 }
 
@@ -226,12 +227,14 @@ fn give_any(case: &mut Case) -> Checked {
     }
 }
 
-/// Gives distances, and now and then changes a thing before one. What follows a refusal is tried once more.
+/// Gives distances, and now and then changes a thing before one. What follows a refusal is tried once more, and what follows a broken
+/// distance as it was.
 fn give_some(case: &mut Case, mut forged: Forged, distances: u64) -> Checked {
     for _ in 0..distances {
         let asked = forged.words.get(3).copied().unwrap_or(1);
-        let distance = case.random.distance(level(asked));
-        if give(case, &mut forged, distance)?.is_err() || case.random.below(4) == 0 {
+        let distance = some_distance(level(asked), &mut case.random);
+        let is_stuck = matches!(give(case, &mut forged, distance)?, Err(refusal) if refusal != BROKEN);
+        if is_stuck || case.random.below(4) == 0 {
             mutate(&mut forged, &mut case.random);
         }
     }
@@ -265,8 +268,8 @@ fn lengths_of_build(random: &mut Random) -> [usize; 4] {
     }
 }
 
-/// Drives a build over a field for many steps. On the way it is tried with things changed, some of which stay so. Where it
-/// finishes, its tree is read.
+/// Drives a build over a field for many steps. On the way it is tried with things changed, some of which stay so, and with other
+/// distances. Where it finishes, its tree is read.
 fn drive(case: &mut Case) -> Checked {
     let some = case.random.below(16) as u32;
     let bound = or_edge(some, &mut case.random);
@@ -276,7 +279,7 @@ fn drive(case: &mut Case) -> Checked {
     let lasting = case.random.below(2) == 0;
     while let Ok(Some(request)) = next {
         let distance = match case.random.below(24) {
-            0 => case.random.distance(level(request.key)),
+            0 => some_distance(level(request.key), &mut case.random),
             _ => field(request.centre),
         };
         if case.random.below(8) == 0 {
@@ -287,7 +290,11 @@ fn drive(case: &mut Case) -> Checked {
         if lasting && case.random.below(100) == 0 {
             mutate(&mut forged, &mut case.random);
         }
-        next = give(case, &mut forged, distance)?;
+        let answer = give(case, &mut forged, distance)?;
+        // After a broken distance the same cell is asked for.
+        if answer != Err(BROKEN) {
+            next = answer;
+        }
     }
     if next == Ok(None) {
         let _ = give(case, &mut forged, 0.0)?;

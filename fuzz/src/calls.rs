@@ -31,7 +31,7 @@ pub const CALLS: &[Call] = &[
     call!("side", ONE_WAY, [2, 4], keys::side),
     call!("should_refine", YES_OR_NO, [], keys::should_refine),
     call!("start", ONE_WAY, [5, 10], builds::start),
-    call!("distance", &["split", "leaf", "finished"], [10, 9, 6, 7, 8], builds::distance),
+    call!("distance", &["split", "leaf", "finished"], [10, 9, 16, 6, 7, 8], builds::distance),
     call!("sound", YES_OR_NO, [], reading::sound),
     call!("look_up", &["found", "nothing"], [11, 1], reading::look_up),
     call!("list", &["vertices", "none"], [11, 12], reading::list),

@@ -33,7 +33,7 @@ impl Found {
         Found { key: Out::new(), distance: Out::new(), tried: Out::new() }
     }
 
-    /// Where nothing is found, the key and the distance are 0.
+    /// Where nothing is found, the key and the distance are 0. What one finds who trusts a tree may be a NaN.
     fn differences(mut self, answer: Option<Lookup>) -> [Option<String>; 3] {
         let (key, distance, tried) = match answer {
             Some(Lookup::Found { key, distance, tried }) => (Some([key]), Some([one_nan(distance)]), Some([tried])),
@@ -407,7 +407,11 @@ fn disturb_one(tables: &mut Tables, random: &mut Random) {
     match random.below(5) {
         0 | 1 => disturb(&mut tables.keys, value, random),
         2 | 3 => disturb(&mut tables.leaves, value, random),
-        _ => disturb(&mut tables.distances, value as u32, random),
+        // Often one of the greatest, or an infinity beside them.
+        _ => {
+            let distance = random.distance(level(value));
+            disturb(&mut tables.distances, distance.to_bits(), random)
+        }
     }
 }
 
