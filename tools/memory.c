@@ -5,6 +5,7 @@
 #define _GNU_SOURCE
 #include "mittenhelm.h"
 
+#include <float.h>
 #include <math.h>
 #include <stdio.h>
 #include <stdlib.h>
@@ -271,12 +272,15 @@ static void build(bool (*is_split)(uint64_t), uint32_t depth_bound, size_t room)
     bound = depth_bound;
     measure(&call_start);
     expect(answer == MITTENHELM_ACCEPTED, "start");
+    distance = NAN;
+    measure(&call_distance);
+    expect(answer == MITTENHELM_NOT_FINITE, "a distance that is NaN");
     while (state[MITTENHELM_STATE_ASKED] != 0) {
         uint64_t asked = state[MITTENHELM_STATE_ASKED];
         bool splits = asked >= 64 && is_split(asked) && nodes_with_queued + 8 <= room;
         if (splits && asked < first_cell(depth_bound))
             nodes_with_queued += 8;
-        distance = splits ? 0.0f : INFINITY;
+        distance = splits ? 0.0f : FLT_MAX;
         measure(&call_distance);
         expect(answer == MITTENHELM_ACCEPTED, "distance");
     }

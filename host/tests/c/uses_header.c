@@ -3,10 +3,35 @@
 #include "mittenhelm.h"
 
 #include <math.h>
+#include <string.h>
 
 /* The tables of a build. */
 static uint64_t keys[73], leaves[64], queue[64];
 static float distances[73];
+
+/* Gives what is no distance while a cell is asked for: it is refused, and the build stands where it stood. */
+static void refuse_broken(uint64_t *state, size_t queue_length)
+{
+    const float broken[3] = {INFINITY, -INFINITY, NAN};
+    uint64_t state_before[MITTENHELM_STATE_WORDS], keys_before[73], leaves_before[64], queue_before[64], key = 5;
+    float distances_before[73], x = 5, y = 5, z = 5, half = 5;
+    int i;
+
+    memcpy(state_before, state, sizeof state_before);
+    memcpy(keys_before, keys, sizeof keys);
+    memcpy(distances_before, distances, sizeof distances);
+    memcpy(leaves_before, leaves, sizeof leaves);
+    memcpy(queue_before, queue, sizeof queue);
+    for (i = 0; i < 3; i++) {
+        expect(mittenhelm_distance(state, 8, keys, 73, distances, 73, leaves, 64, queue, queue_length, broken[i],
+            &key, &x, &y, &z, &half) == MITTENHELM_NOT_FINITE, "a distance that is infinite or NaN");
+        expect(memcmp(state_before, state, sizeof state_before) == 0, "the state after a broken distance");
+        expect(memcmp(keys_before, keys, sizeof keys) == 0 && memcmp(distances_before, distances, sizeof distances) == 0
+            && memcmp(leaves_before, leaves, sizeof leaves) == 0 && memcmp(queue_before, queue, sizeof queue) == 0,
+            "the tables after a broken distance");
+        expect(key == 5 && x == 5 && y == 5 && z == 5 && half == 5, "no request after a broken distance");
+    }
+}
 
 /* A build of bound 2, with a queue of so many places: the number of the distance that was refused, or 0 where it finishes. */
 static unsigned refused_at(size_t queue_length, uint32_t *refusal)
@@ -20,6 +45,7 @@ static unsigned refused_at(size_t queue_length, uint32_t *refusal)
     expect(key == 1 && x == 0.5f && y == 0.5f && z == 0.5f && half == 0.5f, "the root is asked for first");
     while (state[MITTENHELM_STATE_ASKED] != 0) {
         expect(state[MITTENHELM_STATE_ASKED] == key && state[MITTENHELM_STATE_NODES] == given, "state");
+        refuse_broken(state, queue_length);
         given++;
         *refusal = mittenhelm_distance(state, 8, keys, 73, distances, 73, leaves, 64, queue, queue_length, (float)given,
             &key, &x, &y, &z, &half);
@@ -30,7 +56,7 @@ static unsigned refused_at(size_t queue_length, uint32_t *refusal)
     expect(keys[0] == 1 && keys[9] == 64 && keys[72] == 127 && leaves[0] == 64 && leaves[63] == 127, "keys and leaves");
     expect(distances[0] == 1.0f && distances[72] == 73.0f, "distances");
     expect(key == 127 && x == 0.875f && y == 0.875f && z == 0.875f && half == 0.125f, "the last cell that was asked for");
-    *refusal = mittenhelm_distance(state, 8, keys, 73, distances, 73, leaves, 64, queue, queue_length, 1.0f,
+    *refusal = mittenhelm_distance(state, 8, keys, 73, distances, 73, leaves, 64, queue, queue_length, NAN,
         &key, &x, &y, &z, &half);
     expect(*refusal == MITTENHELM_NOTHING_ASKED, "a distance after the last");
     *refusal = mittenhelm_distance(state, 8, keys, 72, distances, 73, leaves, 64, queue, queue_length, 1.0f,
@@ -88,6 +114,10 @@ static void read_tree(uint64_t middle)
 
     expect(mittenhelm_sound(TREE), "sound");
     expect(!mittenhelm_sound(keys, 73, distances, 72, leaves, 64), "a distance too few");
+    distances[72] = -INFINITY;
+    expect(!mittenhelm_sound(TREE), "a distance that is infinite");
+    expect(mittenhelm_look_up(TREE, 71, &found, &distance, &tried) == MITTENHELM_NOT_SOUND && found == 5, "look_up beside it");
+    distances[72] = 73.0f;
 
     expect(mittenhelm_look_up(TREE, 8 * 71 + 3, &found, &distance, &tried) == MITTENHELM_ACCEPTED, "look_up");
     expect(found == 71 && distance == 17.0f && tried == 2, "the deepest ancestor");
@@ -171,7 +201,8 @@ int main(void)
     expect(mittenhelm_side(8, 1, 7, &number) == MITTENHELM_NOT_A_VERTEX && number == 8, "side of no vertex");
 
     expect(mittenhelm_should_refine(2, 3, 14529495.0f / 67108864.0f), "should_refine");
-    expect(!mittenhelm_should_refine(2, 3, NAN), "should_refine of NaN");
+    expect(mittenhelm_should_refine(0, 3, 9.0f), "should_refine of the root");
+    expect(!mittenhelm_should_refine(0, 3, NAN) && !mittenhelm_should_refine(2, 3, -INFINITY), "should_refine of no distance");
 
     expect(refused_at(64, &refusal) == 0, "a queue of 64");
     read_tree(middle);
