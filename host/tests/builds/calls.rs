@@ -20,7 +20,7 @@ pub fn bits(request: &Request) -> Bits {
 /// How often each refusal was seen, and each kind of acceptance.
 #[derive(Debug, Default)]
 pub struct Seen {
-    pub refused: [u64; 11],
+    pub refused: [u64; 17],
     pub started: u64,
     pub split: u64,
     pub unsplit: u64,
@@ -129,12 +129,6 @@ impl Pair {
         let lengths = self.tables.lengths();
         let call = || format!("distance({:#x}) in the state {before:x?}, tables of {lengths:x?}", distance.to_bits());
         assert_answered(number, (key, [x, y, z, half]), &expected, &call);
-        // No promise settles the bits of a NaN: the place of the node has to hold one.
-        if expected.is_ok() && distance.is_nan() {
-            let (place, kept) = (before[1] as usize, self.distances.part()[before[1] as usize]);
-            assert!(f32::from_bits(kept).is_nan(), "{}: place {place} of the node distances is {kept:#x}", call());
-            self.tables.distances[place] = kept;
-        }
         self.assert_same(&call);
         match expected {
             Ok(None) => seen.finished += 1,

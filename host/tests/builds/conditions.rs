@@ -3,7 +3,7 @@
 
 use crate::calls::{Pair, Seen};
 use oracle_answers::forged::{garbage, Forged};
-use oracle_answers::inputs::{first_cell, last_cell};
+use oracle_answers::inputs::{first_cell, last_cell, BROKEN_DISTANCES, GREATEST_DISTANCES};
 
 /// A state of so many nodes and leaves; every place of the queue holds 64, a cell of every grid.
 fn state(bound: u64, n: u64, m: u64, asked: u64, lengths: [usize; 4]) -> Forged {
@@ -20,9 +20,16 @@ fn said(forged: &Forged, distance: f32) -> u32 {
     pair.distance(distance, &mut Seen::default()).err().unwrap_or(0)
 }
 
-/// As above, for a distance that splits no cell from level 2 on.
+/// As above, for the greatest distances, which split no cell from level 2 on. A broken one, which is next to them, is refused by the same
+/// number where that is 10 or 9, and else by 16.
 fn number(forged: Forged) -> u32 {
-    said(&forged, f32::NAN)
+    let [number, below] = GREATEST_DISTANCES.map(|greatest| said(&forged, greatest));
+    assert_eq!(number, below);
+    let broken = if [10, 9].contains(&number) { number } else { 16 };
+    for bits in BROKEN_DISTANCES {
+        assert_eq!(said(&forged, f32::from_bits(bits)), broken, "{bits:#x}");
+    }
+    number
 }
 
 /// Lengths for a state that asks for 100, a cell of level 2, while 8 of 24 places of the ring are taken: n is 16, m is 13.
@@ -148,16 +155,31 @@ fn asked_and_next_key() {
 /// Where several refusals hold, the first in document 01's order is told.
 #[test]
 fn refusals_in_their_order() {
+    let all = |forged: &Forged| [0.0, 9.0, f32::INFINITY, f32::NEG_INFINITY, f32::NAN].map(|distance| said(forged, distance));
     let full = state(5, 16, 13, 100, [16, 16, 13, 15]);
-    // No node, no leaf and no children have room: 6, whatever the distance.
-    assert_eq!((said(&full, 0.0), said(&full, 9.0)), (6, 6));
+    // No node, no leaf and no children have room: 6, whatever the distance, so long as it is one.
+    assert_eq!(all(&full), [6, 6, 16, 16, 16]);
     let full = state(5, 16, 13, 100, [17, 17, 13, 15]);
-    assert_eq!((said(&full, 0.0), said(&full, 9.0)), (8, 7));
-    // The same with a state that doesn't fit: 10.
+    assert_eq!(all(&full), [8, 7, 16, 16, 16]);
+    assert_eq!(all(&state(5, 16, 13, 100, ENOUGH)), [0, 0, 16, 16, 16]);
+    // Nothing is asked, in tables that a finished tree fills: 9.
+    assert_eq!(all(&state(5, 17, 15, 0, [17, 17, 15, 0])), [9; 5]);
+    // A state that doesn't fit: 10.
     for word in 0..8 {
         let mut other = full.clone();
         other.words[word] = u64::MAX;
-        assert_eq!((said(&other, 0.0), said(&other, 9.0)), (10, 10));
+        assert_eq!(all(&other), [10; 5]);
+    }
+}
+
+/// A cell of level 0 or 1 is split by every finite distance, and by no broken one: 16, and not the 8 or 0 of a split.
+#[test]
+fn broken_distances_of_the_first_levels() {
+    for asked in [1, 8, 15] {
+        for (queue, split) in [(15, 8), (16, 0)] {
+            let forged = state(5, 16, 13, asked, [20, 21, 22, queue]);
+            assert_eq!(number(forged), split, "{asked} in a queue of {queue}");
+        }
     }
 }
 

@@ -2,6 +2,7 @@
 
 use mittenhelm::{distance, start, Refusal, Request, State, Tables};
 use oracle_answers::fields::{cell_at, KINDS};
+use oracle_answers::inputs::BROKEN_DISTANCES;
 
 use crate::fields::Case;
 
@@ -77,6 +78,26 @@ fn refusals_in_words() {
     assert_eq!(told(2, [73, 73, 64, 7]), "1: refused 8: no room in the queue for eight children");
 }
 
+/// A sampler that divides by zero is told so at the cell where it does, and the build goes on when it gives a distance after all.
+#[test]
+fn a_broken_distance() {
+    let (mut room, mut other) = (Room::new([81, 81, 71, 71]), Room::new([81, 81, 71, 71]));
+    let at_64 = |request: Request| if request.key == 64 { 0.0 } else { 1.0 };
+    let expected = build(3, &mut other.tables(), at_64).expect("room enough");
+    let (mut state, request) = start(3, &room.tables()).expect("a bound up to 15");
+    let mut asked = Some(request);
+    while let Some(request) = asked {
+        for bits in BROKEN_DISTANCES {
+            let before = state;
+            let refused = distance(&mut state, &mut room.tables(), f32::from_bits(bits)).expect_err("no distance");
+            assert_eq!((refused.to_string(), state), ("refused 16: the distance is infinite or NaN".to_string(), before));
+        }
+        asked = distance(&mut state, &mut room.tables(), at_64(request)).expect("room enough");
+    }
+    assert_eq!(state, expected);
+    assert_eq!((room.keys, room.distances, room.leaves), (other.keys, other.distances, other.leaves));
+}
+
 /// A state can be kept, and brought back with its tables; other tables are refused, and what is finished stays so.
 #[test]
 fn a_kept_state() {
@@ -87,9 +108,9 @@ fn a_kept_state() {
         distance(&mut state, &mut room.tables(), 0.0).expect("room enough");
     }
     let kept = state;
-    let first = distance(&mut state, &mut room.tables(), f32::NAN);
+    let first = distance(&mut state, &mut room.tables(), f32::MAX);
     let mut state = State(kept.0);
-    assert_eq!(distance(&mut state, &mut room.tables(), f32::NAN), first);
+    assert_eq!(distance(&mut state, &mut room.tables(), f32::MAX), first);
     let other = distance(&mut state, &mut Room::new([73, 73, 64, 65]).tables(), 0.0);
     assert_eq!(other.map_err(|refusal| refusal.number()), Err(10));
     while state.asked().is_some() {

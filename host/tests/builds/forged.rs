@@ -8,18 +8,21 @@ use oracle_answers::forged::{garbage, some_lengths, Forged, WORDS};
 use oracle_answers::inputs::Random;
 use oracle_answers::model::level;
 
-/// Gives distances, one after another: what follows a forged state that fits may be odd, and is the model's too.
+/// Gives distances, one after another, some of them broken: what follows a forged state that fits may be odd, and is the model's too.
 fn check(forged: Forged, distances: u64, random: &mut Random, seen: &mut Seen) {
     let mut pair = Pair::new(forged.words, forged.tables);
     for _ in 0..distances {
         let asked = pair.words.get(3).copied().unwrap_or(1);
-        if pair.distance(random.distance(level(asked)), seen).is_err() {
-            return;
+        let distance = if random.below(8) == 0 { random.broken_distance() } else { random.distance(level(asked)) };
+        match pair.distance(distance, seen) {
+            // All is as it was before a broken distance.
+            Ok(_) | Err(16) => {}
+            Err(_) => return,
         }
     }
 }
 
-const ALL: [usize; 5] = [6, 7, 8, 9, 10];
+const ALL: [usize; 6] = [6, 7, 8, 9, 10, 16];
 
 /// Half of them fit, half are changed in one thing, and in each what comes next is tried too.
 fn forge(seed: u64) {

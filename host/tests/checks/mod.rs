@@ -171,7 +171,7 @@ impl Checks {
         ours
     }
 
-    /// The rule by f32 operations takes its half size from the text, at the last key of the level.
+    /// The rule by f32 operations, which is that of finite distances, takes its half size from the text, at the last key of the level.
     pub fn should_refine(&mut self, level: u32, bound: u32, distance: f32) {
         let key = if level <= model::DEEPEST { last_cell(level) } else { 1 };
         self.should_refine_key(key, level, bound, distance);
@@ -182,7 +182,7 @@ impl Checks {
         let call = || format!("should_refine({level}, {bound}, {distance:e}), bits {:#x}", distance.to_bits());
         let ours = unsafe { mittenhelm_should_refine(level, bound, distance) };
         agree(&ours, &(model::should_refine(level, bound, distance) as u8), "the model", &call);
-        if level <= model::DEEPEST {
+        if level <= model::DEEPEST && distance.is_finite() {
             let rule = |half_size| splits_in_f32(level, bound, distance, half_size) as u8;
             self.compare(Some(key), ours, || rule(integer::size(key)), || rule(published::size(key)), call);
         }

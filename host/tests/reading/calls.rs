@@ -217,7 +217,7 @@ impl Given {
         expected
     }
 
-    /// Makes a lookup that is handed its places, and sees that it hands over what is expected.
+    /// Makes a lookup that is handed its places, and sees that it hands over what is expected. Of a tree that is trusted, that may be a NaN.
     fn agree_lookup(
         &self,
         expected: Answer<Lookup>,
@@ -361,7 +361,8 @@ impl Given {
         expected
     }
 
-    /// Makes a call for a dual cell that is handed its places, and sees that it hands over what is expected.
+    /// Makes a call for a dual cell that is handed its places, and sees that it hands over what is expected, which may be NaNs of a tree
+    /// that is trusted.
     fn agree_cell(
         &self,
         expected: Answer<DualCell>,

@@ -2,7 +2,7 @@
 //! else the one that `tools/program counts` makes.
 
 use oracle_answers::fields::{field, KINDS};
-use oracle_answers::inputs::Random;
+use oracle_answers::inputs::{Random, BROKEN_DISTANCES, GREATEST_DISTANCES};
 use oracle_answers::model::reading::{counts, Reading, Tables};
 use oracle_answers::model::{level, vertex};
 use oracle_answers::trees::{grown, Growth, Tree};
@@ -78,7 +78,7 @@ fn input_of(bound: u8, distances: impl Iterator<Item = f32>) -> Vec<u8> {
 /// The input that builds a tree: near where a cell is split, far where it isn't.
 fn input_for(tables: &Tables) -> Vec<u8> {
     let far = |key: &u64| tables.leaves.binary_search(key).is_ok();
-    input_of(15, tables.keys.iter().map(|key| if far(key) { f32::INFINITY } else { -0.0 }))
+    input_of(15, tables.keys.iter().map(|key| if far(key) { f32::MAX } else { -0.0 }))
 }
 
 fn nearly_all() -> impl Iterator<Item = Vec<u8>> {
@@ -141,6 +141,52 @@ fn every_end() {
     println!("ends: {seen:?}");
     seen.assert_often(20, &["short", "refused 5"]);
     seen.assert_often(8, &["refused 6"]);
+}
+
+/// The input with one distance changed.
+fn with_distance(input: &[u8], place: usize, distance: f32) -> Vec<u8> {
+    let (mut changed, at) = (input.to_vec(), 1 + 4 * place);
+    changed[at..at + 4].copy_from_slice(&distance.to_le_bytes());
+    changed
+}
+
+/// A broken distance is refused where it is due and whole, before a room that is too short; what comes after the last is ignored.
+#[test]
+fn broken_distances() {
+    let mut seen = Seen::default();
+    let far = input_of(2, [1.0; 80].into_iter());
+    for (number, bits) in BROKEN_DISTANCES.into_iter().enumerate() {
+        for place in [0, 1, 8, 9, 40, 72] {
+            let broken = with_distance(&far, place, f32::from_bits(bits));
+            assert_eq!(seen.check(&broken, &[]), "refused 16\n", "{bits:#x} at {place}");
+            let end = 1 + 4 * (place + 1);
+            assert_eq!(seen.check(&broken[..end], &[]), "refused 16\n", "{bits:#x} at {place}");
+            assert_eq!(seen.check(&broken[..end - 1 - number % 3], &[]), "short\n", "{bits:#x} at {place}");
+        }
+        assert_eq!(seen.check(&with_distance(&far, 73, f32::from_bits(bits)), &[]), "73 64 27\n");
+    }
+    for greatest in GREATEST_DISTANCES {
+        assert_eq!(seen.check(&input_of(2, [greatest; 73].into_iter()), &[]), "73 64 27\n");
+    }
+    // A bound above 15 goes before.
+    let broken = input_of(3, [f32::NAN; 2].into_iter());
+    assert_eq!(seen.check(&broken, &[]), "refused 16\n");
+    assert_eq!(seen.check(&[&[16], &broken[1..]].concat(), &[]), "refused 5\n");
+
+    // Where there is no room for a node, and where there is none in the queue, since 146 splits leave fewer than 8 of its places.
+    let no_node = input_for(&grown(Growth::Any, 140, 15, &mut Random::new(3)));
+    let no_queue = input_of(5, [0.0; 1024].into_iter());
+    for (input, refused, number) in [(no_node, 1024, 6), (no_queue, 146, 8)] {
+        assert_eq!(seen.check(&input, &[]), format!("refused {number}\n"));
+        for (place, distance, expected) in [
+            (refused, f32::INFINITY, "refused 16\n".to_string()),
+            (refused - 1, f32::NAN, "refused 16\n".to_string()),
+            (refused + 1, f32::NAN, format!("refused {number}\n")),
+        ] {
+            assert_eq!(seen.check(&with_distance(&input, place, distance), &[]), expected, "{distance} at {place}");
+        }
+    }
+    println!("broken distances: {seen:?}");
 }
 
 /// The vertices that a split of a leaf would give, beside those that are there.

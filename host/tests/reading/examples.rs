@@ -118,6 +118,9 @@ fn refusals_in_words() {
     assert_eq!(root.checked().map(|checked| checked.tree().keys), Ok(root.keys));
     assert_eq!(told(none.checked().map(|_| ())), "refused 11: not a sound tree");
     assert_eq!(told(none.look_up(0).map(|_| ())), "refused 11: not a sound tree");
+    for broken in [f32::INFINITY, f32::NEG_INFINITY, f32::NAN] {
+        assert_eq!(told(Tree { distances: &[broken], ..root }.checked().map(|_| ())), "refused 11: not a sound tree");
+    }
     assert_eq!(told(root.look_up(0).map(|_| ())), "refused 1: not a cell key");
     assert_eq!(told(root.list(0, &mut [], &mut []).map(|_| ())), "accepted");
     assert_eq!(
@@ -150,10 +153,10 @@ fn wrappers() {
     let number = |refusal: mittenhelm::Refusal| refusal.number();
     for round in 0..300 {
         let mut tables = grown(GROWTHS[round % 3], round / 10, 15, &mut random);
-        // The wrapper hands floats on by value; a NaN is no equal of itself.
-        tables.distances.iter_mut().for_each(|bits| *bits &= 0xbfff_ffff);
-        if round % 10 == 7 {
-            tables.leaves.pop();
+        match round % 10 {
+            3 => tables.distances[round / 10 % 9] = random.broken_distance().to_bits(),
+            7 => drop(tables.leaves.pop()),
+            _ => {}
         }
         let distances: Vec<f32> = tables.distances.iter().map(|&bits| f32::from_bits(bits)).collect();
         let tree = Tree { keys: &tables.keys, distances: &distances, leaves: &tables.leaves };

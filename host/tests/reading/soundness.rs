@@ -3,7 +3,7 @@
 use crate::calls::{Given, Seen};
 use oracle_answers::broken::{change, BREAKS};
 use oracle_answers::fields::{field, KINDS};
-use oracle_answers::inputs::{first_cell, last_cell, Random};
+use oracle_answers::inputs::{first_cell, last_cell, Random, BROKEN_DISTANCES, GREATEST_DISTANCES};
 use oracle_answers::model::level;
 use oracle_answers::model::reading::Tables;
 use oracle_answers::trees::{grown, small, Growth, Tree};
@@ -31,9 +31,36 @@ fn each_condition_broken() {
         assert_eq!(broken, 2000, "{what}");
     }
     println!("each condition broken: {seen:?}");
-    assert!(seen.sound == 0 && seen.unsound > 44_000, "{seen:?}");
+    assert!(seen.sound == 0 && seen.unsound > 52_000, "{seen:?}");
     seen.assert_refused(30_000, &[11]);
     seen.trusted.assert_every_answer(10);
+}
+
+/// A broken distance at every place of a tree, alone: no call that checks it reads it. The greatest distances are next to those, and sound.
+#[test]
+fn one_distance_broken() {
+    let (mut random, mut seen) = (Random::new(6), Seen::default());
+    for splits in [0, 1, 9, 10, 30] {
+        let tables = grown(Growth::Any, splits, 15, &mut random);
+        for place in 0..tables.keys.len() {
+            for greatest in GREATEST_DISTANCES {
+                let mut other = tables.clone();
+                other.distances[place] = greatest.to_bits();
+                assert!(Given::new(other).sound(&mut seen), "{greatest:e} at {place}");
+            }
+            for bits in BROKEN_DISTANCES {
+                let mut other = tables.clone();
+                other.distances[place] = bits;
+                let given = Given::new(other);
+                assert!(!given.sound(&mut seen), "{bits:#x} at {place}");
+                assert_eq!(given.look_up(tables.keys[place], &mut seen), Err(11));
+                assert_eq!(given.list(0, [2000; 2], &mut seen), Err(11));
+                assert_eq!(given.dual_cell(15 << 60, 1, &mut seen), Err(11));
+            }
+        }
+    }
+    println!("one distance broken: {seen:?}");
+    assert_eq!((seen.sound, seen.unsound, seen.refused[11]), (2 * 405, 10 * 405, 30 * 405));
 }
 
 /// Real trees of every kind and bound; grown ones, of the root alone, of nine nodes and up to level 15.
@@ -75,6 +102,8 @@ fn more_than_4096_nodes() {
         let (last, leaf) = (given.tables.keys.len() - 1, given.tables.leaves.len() - 1);
         for change in [
             (|tables, _, _| tables.distances.truncate(tables.keys.len() - 1)) as fn(&mut Tables, usize, usize),
+            |tables, last, _| tables.distances[last] = f32::NAN.to_bits(),
+            |tables, last, _| tables.distances[last / 2] = f32::INFINITY.to_bits(),
             |tables, last, _| tables.keys[last] += 1,
             |tables, last, _| tables.keys.swap(last, last - 1),
             |tables, _, leaf| tables.leaves[leaf] -= 1,
