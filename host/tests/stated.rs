@@ -74,7 +74,7 @@ fn declared(folder: &Path, names: &mut BTreeSet<String>) {
         let path = entry.expect("an entry of a folder").path();
         if path.is_dir() {
             declared(&path, names);
-        } else if path.extension().is_some_and(|ending| ending == "antt") {
+        } else if path.extension().map_or(false, |ending| ending == "antt") {
             let text = fs::read_to_string(&path).expect("a text");
             names.extend(text.lines().filter_map(stated).map(String::from));
         }
