@@ -46,13 +46,18 @@ fn between_samples_the_field_is_trilinear() {
     }
 }
 
-/// No sum of two samples overflows, and so none is lost.
+/// No sum of two samples overflows, and so none is lost: what lies between finite samples is finite, or the build would be refused.
 #[test]
 fn great_samples() {
-    let path = saved("great.grid", &grid([4, 4, 4], |[x, y, z]| if (x + y + z) % 2 == 0 { f32::MAX } else { f32::MIN }));
-    let leaves = table(&path, &[], "leaves");
-    assert_eq!(leaves.len(), 64);
-    assert!(leaves.iter().all(|leaf| numbers(leaf, 6)[0].abs() <= f32::MAX as f64));
+    let distances = |even: f32, odd: f32| -> Vec<f64> {
+        let path = saved("great.grid", &grid([4, 4, 4], |[x, y, z]| if (x + y + z) % 2 == 0 { even } else { odd }));
+        table(&path, &[], "leaves").iter().map(|leaf| numbers(leaf, 6)[0]).collect()
+    };
+    for greatest in [f32::MAX, f32::MIN] {
+        assert_eq!(distances(greatest, greatest), [greatest as f64; 64]);
+        let between = distances(greatest, -greatest);
+        assert!(between.len() == 64 && between.iter().all(|distance| distance.abs() <= f32::MAX as f64), "{between:?}");
+    }
 }
 
 /// Sampled where the centres of a build are, a part gives the tree that it gives itself.
