@@ -10,6 +10,7 @@ use lib.Dec.{eqb, leb, ltb}
 use borrow.Author.Tests.{not-false, eqb-true, eqb-false, leb-true, ltb-false, le-leb, lt-leb, lt-ltb, le-ltb, eq-eqb, ne-eqb}
 use lib.IntN.{ℤ}
 use lib.Ieee.{Float, fin, up, down}
+use lib.Ieee.Scale.{finite}
 use Rattle.morton.specs.Level.{Cell, deepest, limit, level, isCell}
 use Rattle.morton.specs.Split.{atMost, near, splits}
 use Rattle.morton.proofs.Levels.{level-le, and-true, is-cell, cell-is, cell-level, cell-lt}
@@ -40,7 +41,7 @@ split-is r L key bound d e h = h ∙ rw (e, le-leb (level key) deepest (level-le
 
 -- ---- the finest grid, by the split rule: the distance 0 splits exactly the cells above it
 
-zero-near : (L : ℕ) (e : ℤ) → near L (fin false 0 e) ≡ true
+zero-near : (L : ℕ) (e : ℤ) → near L 0 e ≡ true
 unfolding atMost
 zero-near L e = below (up e) (2 ^ (L + 1) * 2 ^ 23) (1 * 14529495 * down e)
   where
@@ -57,6 +58,7 @@ unfolding finest
 on-grid L bound h g = omega arith
 
 pub zero-splits : (L bound : ℕ) (e : ℤ) → splits L bound (fin false 0 e) ≡ ltb L (finest bound)
+unfolding splits
 zero-splits L bound e = go (decLt L 2) (decLt L bound)
   where
     go : Dec (L < 2) → Dec (L < bound) → splits L bound (fin false 0 e) ≡ ltb L (finest bound)
@@ -144,22 +146,24 @@ cond-zero : (b : Bool) (x y : ℕ) → 0 < x → cond b x y ≡ 0 → (b ≡ fal
 cond-zero true x y p h = absurd (omega arith)
 cond-zero false x y p h = (refl, h)
 
-pub record Passed (s : State) (split : Bool) (z : Lengths) (next room top : ℕ) : Type 0 where
+pub record Passed (s : State) (split : Bool) (d : Float) (z : Lengths) (next room top : ℕ) : Type 0 where
   pub asks : s .asked ≡ 0 → ⊥
   pub state : Asked s z next room top
+  pub known : finite d ≡ true
   pub nodes : s .nodes < room
   pub full : fullOf s split ≡ 0
 
-pub passed : (s : State) (split : Bool) (z : Lengths) (next room top : ℕ) → refusalAt s z next split room top ≡ 0 → Passed s split z next room top
+pub passed : (s : State) (split : Bool) (d : Float) (z : Lengths) (next room top : ℕ) → refusalAt s z next split d room top ≡ 0 → Passed s split d z next room top
 unfolding refusalAt
-passed s split z next room top h =
+passed s split d z next room top h =
     let h1 = cond-zero (not (fitsAt s z next room top)) _ _ (omega arith) h in
     let h2 = cond-zero (eqb (s .asked) 0) _ _ (omega arith) (h1 .1) in
-    let h3 = cond-zero (eqb (s .nodes) room) _ _ (omega arith) (h2 .1) in
+    let h3 = cond-zero (not (finite d)) _ _ (omega arith) (h2 .1) in
+    let h4 = cond-zero (eqb (s .nodes) room) _ _ (omega arith) (h3 .1) in
     let n = eqb-false _ _ (h2 .0) in
     let k = asked s z next room top n (not-false (fitsAt s z next room top) (h1 .0)) in
-    let r = eqb-false (s .nodes) room (h3 .0) in
-    record { asks = n; state = k; nodes = let l = k .counted .room in omega arith; full = h3 .1 }
+    let r = eqb-false (s .nodes) room (h4 .0) in
+    record { asks = n; state = k; known = not-false (finite d) (h3 .0); nodes = let l = k .counted .room in omega arith; full = h4 .1 }
 
 pub full-leaf : (s : State) → fullOf s false ≡ 0 → s .leaves ≡ s .lengths .leaves → ⊥
 unfolding fullOf
@@ -185,7 +189,7 @@ and-false : (a : Bool) → (a && false) ≡ false
 and-false true = refl
 and-false false = refl
 
-pub refused : (s : State) (split : Bool) (d : Float) (t : Tables) (k : ℕ) → k ≡ refusalOf s split t → (k ≡ 0 → ⊥) → outcome (Refused k) t ≡ decideOf s split d t
+pub refused : (s : State) (split : Bool) (d : Float) (t : Tables) (k : ℕ) → k ≡ refusalOf s split d t → (k ≡ 0 → ⊥) → outcome (Refused k) t ≡ decideOf s split d t
 unfolding decideOf
 refused s split d t k e n = rw (← e, ne-eqb _ _ n)
 
@@ -193,7 +197,7 @@ pub deep-refused : (s : State) (split : Bool) (d : Float) (t : Tables) → limit
 unfolding refusalOf refusalAt fitsAt countsFit
 deep-refused s split d t h = refused s split d t 10 (rw (lt-leb (s .bound) limit h, and-false) refl) (λ e. omega arith)
 
-pub accepted : (s : State) (split : Bool) (d : Float) (t : Tables) → refusalOf s split t ≡ 0 → acceptOf s split d t ≡ decideOf s split d t
+pub accepted : (s : State) (split : Bool) (d : Float) (t : Tables) → refusalOf s split d t ≡ 0 → acceptOf s split d t ≡ decideOf s split d t
 unfolding decideOf
 accepted s split d t e = rw (eq-eqb _ _ e)
 
@@ -201,10 +205,10 @@ finest-small : (bound : ℕ) → bound ≤ limit → finest bound ≤ limit
 unfolding finest
 finest-small bound h = omega arith
 
-pub ready : (s : State) (split : Bool) (t : Tables) → refusalOf s split t ≡ 0 → Ready s split t
+pub ready : (s : State) (split : Bool) (d : Float) (t : Tables) → refusalOf s split d t ≡ 0 → Ready s split t
 unfolding refusalOf lengthsOf nodeRoom
-ready s split t h =
-    let p = passed _ _ _ _ _ _ h in
+ready s split d t h =
+    let p = passed s split d _ _ _ _ h in
     let k = p .state .counted in
     let e = p .state .lengths in
     let f = finest-small (s .bound) (k .bounded) in
@@ -220,14 +224,14 @@ ready s split t h =
 
 -- ---- a call, by the number that it found
 
-module _ (s : State) (t : Tables) (split : Bool) (k : ℕ) (e : k ≡ refusalOf s split t) where
+module _ (s : State) (t : Tables) (split : Bool) (d : Float) (k : ℕ) (e : k ≡ refusalOf s split d t) where
   pub call-ready : k ≡ 0 → Ready s split t
-  call-ready z = ready s split t (sym e ∙ z)
+  call-ready z = ready s split d t (sym e ∙ z)
 
-  pub call-refused : (d : Float) → split ≡ splitOf s d → (k ≡ 0 → ⊥) → outcome (Refused k) t ≡ distanceOf s d t
+  pub call-refused : split ≡ splitOf s d → (k ≡ 0 → ⊥) → outcome (Refused k) t ≡ distanceOf s d t
   unfolding distanceOf
-  call-refused d f n = rw (← f) (refused s split d t k e n)
+  call-refused f n = rw (← f) (refused s split d t k e n)
 
-  pub call-accepted : (d : Float) → split ≡ splitOf s d → k ≡ 0 → (o : Outcome) → o ≡ acceptOf s split d t → o ≡ distanceOf s d t
+  pub call-accepted : split ≡ splitOf s d → k ≡ 0 → (o : Outcome) → o ≡ acceptOf s split d t → o ≡ distanceOf s d t
   unfolding distanceOf
-  call-accepted d f z o a = rw (← f) (a ∙ accepted s split d t (sym e ∙ z))
+  call-accepted f z o a = rw (← f) (a ∙ accepted s split d t (sym e ∙ z))

@@ -7,6 +7,7 @@ use lib.Dec.{eqb, leb, ltb}
 use lib.IntN.{negsuc}
 use lib.ListN.{length, getD, set}
 use lib.Ieee.{Float, fin}
+use lib.Ieee.Scale.{finite}
 use Rattle.morton.specs.Level.{limit, level, isCell}
 use Rattle.morton.specs.Field.{coord}
 use Rattle.morton.specs.Split.{splits}
@@ -111,17 +112,18 @@ fullOf s split =
     (cond (ltb (s .lengths .queue) (7 * s .nodes - 8 * s .leaves + 8)) 8 0)
     (cond (eqb (s .leaves) (s .lengths .leaves)) 7 0)
 
--- 10, 9, 6, then 7 or 8.
-unfoldable pub refusalAt : State → Lengths → ℕ → Bool → ℕ → ℕ → ℕ
-refusalAt s z next split room top =
+-- 10, 9, 16, 6, then 7 or 8. An infinite or NaN distance is refused with 16.
+unfoldable pub refusalAt : State → Lengths → ℕ → Bool → Float → ℕ → ℕ → ℕ
+refusalAt s z next split d room top =
     cond (not (fitsAt s z next room top)) 10
     (cond (eqb (s .asked) 0) 9
+    (cond (not (finite d)) 16
     (cond (eqb (s .nodes) room) 6
-    (fullOf s split)))
+    (fullOf s split))))
 
-unfoldable pub refusalOf : State → Bool → Tables → ℕ
-refusalOf s split t =
-    refusalAt s (lengthsOf t) (itemAt (t .queue) (s .nodes)) split (nodeRoom (lengthsOf t)) (finest (s .bound))
+unfoldable pub refusalOf : State → Bool → Float → Tables → ℕ
+refusalOf s split d t =
+    refusalAt s (lengthsOf t) (itemAt (t .queue) (s .nodes)) split d (nodeRoom (lengthsOf t)) (finest (s .bound))
 
 -- ---- what an accepted distance does
 
@@ -180,9 +182,9 @@ acceptOf s split d t =
 -- The asked cell is split or not; a refused call changes nothing.
 unfoldable pub decideOf : State → Bool → Float → Tables → Outcome
 decideOf s split d t =
-    cond (eqb (refusalOf s split t) 0)
+    cond (eqb (refusalOf s split d t) 0)
     (acceptOf s split d t)
-    (outcome (Refused (refusalOf s split t)) t)
+    (outcome (Refused (refusalOf s split d t)) t)
 
 unfoldable pub distanceOf : State → Float → Tables → Outcome
 distanceOf s d t = decideOf s (splitOf s d) d t

@@ -244,15 +244,26 @@ fn full(s: State, split: bool) -> u32
 }
 
 // The number given for no, or 0.
-fn refusal_at(s: State, z: Lengths, next: u64, split: bool, room: usize, top: u32) -> u32
+fn refusal_at(
+    s: State,
+    z: Lengths,
+    next: u64,
+    split: bool,
+    distance: f32,
+    room: usize,
+    top: u32,
+) -> u32
     requires { ⌜ room ≤ 4096 ⌝ }
-    ensures { λ r. ⌜ r ≡ refusalAt s z next split room top ⌝ }
+    ensures { λ r. ⌜ r ≡ refusalAt s z next split distance room top ⌝ }
 {
     if !fits_at(s, z, next, room, top) {
         return 10;
     }
     if s.asked == 0 {
         return 9;
+    }
+    if !floats::is_finite(distance) {
+        return 16;
     }
     if s.nodes == room {
         return 6;
@@ -274,18 +285,19 @@ fn lengths_of(keys: &[u64], distances: &[f32], leaves: &[u64], queue: &[u64]) ->
 fn refusal_of(
     s: State,
     split: bool,
+    distance: f32,
     keys: &[u64],
     distances: &[f32],
     leaves: &[u64],
     queue: &[u64],
 ) -> u32
-    ensures { λ r. ⌜ r ≡ refusalOf s split (tablesOf (now (keys .entry)) (now (distances .entry)) (now (leaves .entry)) (now (queue .entry))) ⌝ }
+    ensures { λ r. ⌜ r ≡ refusalOf s split distance (tablesOf (now (keys .entry)) (now (distances .entry)) (now (leaves .entry)) (now (queue .entry))) ⌝ }
 {
     let z = lengths_of(keys, distances, leaves, queue);
     let next = item_at(queue, s.nodes);
     let room = node_room(z);
     let top = finest_level(s.bound);
-    refusal_at(s, z, next, split, room, top)
+    refusal_at(s, z, next, split, distance, room, top)
 }
 
 // Begins a build over tables of these lengths: the root is asked for first.
@@ -415,7 +427,7 @@ pub fn distance(
         ≡ distanceOf s distance (tablesOf (now (keys .entry)) (now (distances .entry)) (now (leaves .entry)) (now (queue .entry))) ⌝ }
 {
     let split = is_split(s, distance);
-    let number = refusal_of(s, split, keys, distances, leaves, queue);
+    let number = refusal_of(s, split, distance, keys, distances, leaves, queue);
     if number != 0 {
         return Answer::Refused(number);
     }

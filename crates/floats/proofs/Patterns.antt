@@ -1,9 +1,10 @@
--- Which float a bit pattern is. Assumes nothing.
+-- Which float a bit pattern is, and which floats are finite. Assumes nothing.
 use Prim.Native.Nat.{ℕ, _%_, _^_, _≤_, _<_}
 use mathlib.Core.Path.{_≡_, refl, sym, _∙_, subst}
 use mathlib.Core.Bool.{Bool, true, false, not, true≢false, false≢true}
 use lib.Dec.{T}
-use lib.Ieee.{Float, nan, inf, fin, binary32, div, ne, ofBits, toBits, isNan, nanBits}
+use lib.Ieee.{Float, nan, inf, fin, binary32, div, neg, lt, ne, ofBits, toBits, isNan, nanBits}
+use lib.Ieee.Scale.{finite}
 use lib.Ieee.Bits.{nanBits-is, nanBits-above}
 use lib.Ieee.Compare.{differs-from-itself}
 use borrow.Author.Tests.{lt-ltb, le-ltb}
@@ -40,3 +41,22 @@ nan-bits = (refl, refl)
 
 pub unequal-nan : (x : Float) → ne x x ≡ true → PatternOf x 0x7fc0_0000
 unequal-nan x e = subst (λ (d : Float). PatternOf d 0x7fc0_0000) (sym (differs-from-itself x (subst T (sym e) tt))) nan-bits
+
+-- ---- neither an infinity nor the NaN
+
+abbrev far : Float
+far = div binary32 (ofBits binary32 0x3f80_0000) (ofBits binary32 0)
+
+pub above-low : (x : Float) → lt (neg far) x ≡ true → lt x far ≡ finite x
+unfolding div ofBits lt neg
+above-low nan e = refl
+above-low (inf true) e = absurd (false≢true e)
+above-low (inf false) e = refl
+above-low (fin s m k) e = refl
+
+pub at-low : (x : Float) → lt (neg far) x ≡ false → lt (neg far) x ≡ finite x
+unfolding div ofBits lt neg
+at-low nan e = refl
+at-low (inf true) e = refl
+at-low (inf false) e = absurd (true≢false e)
+at-low (fin s m k) e = refl

@@ -1,6 +1,7 @@
-// Floats and their bit patterns, for every float and every pattern: `f32::from_bits` and `f32::to_bits` leave NaNs out.
+// Floats and their bit patterns, for every float and every pattern: `f32::from_bits` and `f32::to_bits` leave NaNs out. And which are finite.
 ghost use mathlib.Core.Path.{_≡_};
 ghost use lib.Ieee.{binary32, ofBits, toBits};
+ghost use lib.Ieee.Scale.{finite};
 
 // The float of a bit pattern; of every NaN's pattern, the NaN.
 pub fn from_bits(bits: u32) -> f32
@@ -20,4 +21,12 @@ pub fn to_bits(d: f32) -> u32
         return 0x7fc0_0000;
     }
     f32::to_bits(d)
+}
+
+// Whether a float is neither an infinity nor the NaN.
+pub fn is_finite(d: f32) -> bool
+    ensures { λ r. ⌜ r ≡ finite d ⌝ }
+{
+    let far = 1.0 / 0.0;
+    -far < d && d < far
 }

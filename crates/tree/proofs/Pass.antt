@@ -6,12 +6,13 @@ use mathlib.Core.Bool.{Bool, true, false}
 use mathlib.Core.List.{List}
 use mathlib.Core.Logic.{_⊎_, inl, inr, ⊎-elim}
 use native.Mathlib.Omega.{arith}
-use lib.Ieee.{Float}
+use lib.Ieee.{Float, nan}
+use lib.Ieee.Scale.{finite}
 use lib.ListN.{length, getD}
 use Rattle.morton.specs.Level.{limit, Cell, level, parentOf}
 use Rattle.morton.proofs.Levels.{eight-pos, eight-mono, cell-level, cell-lt}
 use Rattle.morton.proofs.Cells.{child-cell}
-use Rattle.tree.specs.Tree.{treeOf, StandsAt, In, AllChildren, NoChild, Sound, Decides, EightAt}
+use Rattle.tree.specs.Tree.{treeOf, StandsAt, In, AllChildren, NoChild, AllFinite, Sound, Decides, EightAt}
 use Rattle.tree.proofs.Lists.{in-at}
 use Rattle.tree.proofs.Halving.{order}
 
@@ -343,9 +344,10 @@ module _ {ks ls : List ℕ} (W : Walked ks ls (length ks) (length ks) (length ls
   leaf-or-all k b = subst (λ (x : ℕ). In x ls ⊎ AllChildren x ks) (b .here)
       (⊎-elim (λ q. inl (before-in (omega arith) q)) (λ a. inr (λ w g. before-in (omega arith) (a w g))) (W .done (b .place) (b .inside)))
 
-  all-passed : {d : List Float} → length ks ≡ length d → Sound (treeOf ks d ls)
-  all-passed e = record {
+  all-passed : {d : List Float} → length ks ≡ length d → AllFinite d → Sound (treeOf ks d ls)
+  all-passed e f = record {
     as-many = e;
+    all-finite = f;
     ascending = W .up;
     first = record { inside = W .some; here = W .first };
     cells = cell-of;
@@ -356,7 +358,28 @@ module _ {ks ls : List ℕ} (W : Walked ks ls (length ks) (length ks) (length ls
     childless-leaves = λ k b none. ⊎-elim (λ q. q) (λ a. absurd (none 0 (omega arith) (a 0 (omega arith)))) (leaf-or-all k b);
   }
 
-pub accepted : {ks ls : List ℕ} {d : List Float} {i c m : ℕ} → Walked ks ls i c m → c ≤ i → c ≡ length ks → m ≡ length ls → length ks ≡ length d → Sound (treeOf ks d ls)
-accepted {ks} {ls} {d} {i} {c} {m} W h e f g =
-    let k : i ≡ length ks = omega (arith, W .behind) in
-    all-passed (subst₃ (λ (x y z : ℕ). Walked ks ls x y z) k e f W) g
+-- ---- distances
+
+-- the first i distances are finite
+abbrev FiniteTo : List Float → ℕ → Type 0
+FiniteTo ds i = (j : ℕ) → j < i → finite (getD ds j nan) ≡ true
+
+finite-more : (ds : List Float) (i : ℕ) → FiniteTo ds i → finite (getD ds i nan) ≡ true → FiniteTo ds (i + 1)
+finite-more ds i f e j h = ⊎-elim (λ lt. f j lt) (λ ge. let q : i ≡ j = omega arith in subst (λ (x : ℕ). finite (getD ds x nan) ≡ true) q e) (order j i)
+
+-- ---- all that the pass has shown
+
+pub record Seen (ks ls : List ℕ) (ds : List Float) (i c m : ℕ) : Type 0 where
+  pub walked : Walked ks ls i c m
+  pub finite-so-far : FiniteTo ds i
+
+pub seen-none : (ks ls : List ℕ) (ds : List Float) → StandsAt ks 0 1 → Seen ks ls ds 0 1 0
+seen-none ks ls ds s = record { walked = start ks ls s; finite-so-far = λ j h. absurd (omega arith) }
+
+pub seen-more : {ks ls : List ℕ} {ds : List Float} {i c m c′ m′ : ℕ} → Seen ks ls ds i c m → finite (getD ds i nan) ≡ true → Walked ks ls (i + 1) c′ m′ → Seen ks ls ds (i + 1) c′ m′
+seen-more {ks} {ls} {ds} {i} S e W = record { walked = W; finite-so-far = finite-more ds i (S .finite-so-far) e }
+
+pub accepted : {ks ls : List ℕ} {ds : List Float} {i c m : ℕ} → Seen ks ls ds i c m → c ≤ i → c ≡ length ks → m ≡ length ls → length ks ≡ length ds → Sound (treeOf ks ds ls)
+accepted {ks} {ls} {ds} {i} {c} {m} S h e f g =
+    let k : i ≡ length ks = omega (arith, S .walked .behind) in
+    all-passed (subst₃ (λ (x y z : ℕ). Walked ks ls x y z) k e f (S .walked)) g (λ j l. S .finite-so-far j (omega arith))

@@ -4,7 +4,8 @@ use mathlib.Core.Path.{_≡_}
 use mathlib.Core.Bool.{Bool, true, false}
 use mathlib.Core.Logic.{_⊎_}
 use mathlib.Core.List.{List}
-use lib.Ieee.{Float}
+use lib.Ieee.{Float, nan}
+use lib.Ieee.Scale.{finite}
 use lib.ListN.{length, getD}
 use Rattle.morton.specs.Level.{limit, Cell, level, parentOf}
 
@@ -39,9 +40,15 @@ AllChildren k ks = (w : ℕ) → w < 8 → In (8 * k + w) ks
 abbrev pub NoChild : ℕ → List ℕ → Type 0
 NoChild k ks = (w : ℕ) → w < 8 → In (8 * k + w) ks → ⊥
 
+-- No infinity and no NaN.
+abbrev pub AllFinite : List Float → Type 0
+AllFinite ds = (i : ℕ) → i < length ds → finite (getD ds i nan) ≡ true
+
 pub record Sound (t : Tree) : Type 0 where
   -- As many keys as distances.
   pub as-many : length (t .keys) ≡ length (t .distances)
+  -- A tree that holds an infinite or NaN distance is no sound tree.
+  pub all-finite : AllFinite (t .distances)
   -- Keys strictly ascending, first 1, all cell keys of level at most 15.
   pub ascending : Ascending (t .keys)
   pub first : StandsAt (t .keys) 0 1

@@ -18,17 +18,35 @@ returns-2 : tie.Need-returns-2
 unfolding refusalAt
 returns-2 c = search called
 
+is-finite-requires : tie.Need-is-finite-requires
+is-finite-requires c κs = search needs
+
 returns-3 : tie.Need-returns-3
 unfolding refusalAt
 returns-3 c = search called
-
-full-requires : tie.Need-full-requires
-full-requires c κs = let k = asked _ _ _ _ _ (c .before .before .if2 .left) (via-not-false _ _ (c .before .before .before .before .before .fits-at .ensures) (c .before .before .before .before .if1 .left)) in omega (arith, k .waiting, k .counted .room)
 
 returns-4 : tie.Need-returns-4
 unfolding refusalAt
 returns-4 c = search called
 
+full-requires : tie.Need-full-requires
+full-requires c κs =
+    let k = asked _ _ _ _ _ (c .before .before .before .before .if2 .left) (via-not-false _ _ (c .before .before .before .before .before .before .before .fits-at .ensures) (c .before .before .before .before .before .before .if1 .left)) in
+    omega (arith, k .waiting, k .counted .room)
+
+returns-5 : tie.Need-returns-5
+unfolding refusalAt
+returns-5 c = search called depth 8
+
 pub refusal-at-spec : {M : Type 1} → statement M
 refusal-at-spec =
-    tie.close (tie.spec fits-at-requires returns returns-2 returns-3 full-requires returns-4)
+    tie.close
+    (tie.spec
+    fits-at-requires
+    returns
+    returns-2
+    is-finite-requires
+    returns-3
+    returns-4
+    full-requires
+    returns-5)
