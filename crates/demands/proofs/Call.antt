@@ -27,7 +27,7 @@ stateAfter s split t = movedOf s (leavesOf s split) (nextOf s (leavesOf s split)
 
 -- A call takes s and t to s' and t'.
 pub record Took (s : State) (split : Bool) (d : Float) (t : Tables) (s' : State) (t' : Tables) : Type 0 where
-  pub free : refusalOf s split t ≡ 0
+  pub free : refusalOf s split d t ≡ 0
   pub state : stateAfter s split t ≡ s'
   pub tables : storedOf s split d t ≡ t'
 
@@ -62,7 +62,7 @@ pub answer-took : (s : State) (t t' : Tables) (d : Float) (a : Answer) → dista
     → Took s (splitOf s d) d t (stateIn s a) t'
 unfolding distanceOf decideOf acceptOf
 answer-took s t t' d a e n =
-    let c = not-refused (eqb (refusalOf s (splitOf s d) t) 0) _ _ _ (outcome a t') e (n _) in
+    let c = not-refused (eqb (refusalOf s (splitOf s d) d t) 0) _ _ _ (outcome a t') e (n _) in
     record {
       free = eqb-true _ _ (c .0);
       state = advance-state s _ _ ∙ ap (λ (o : Outcome). stateIn s (o .answer)) (c .1);
@@ -73,9 +73,9 @@ answer-took s t t' d a e n =
 pub advanced : (s : State) (d : Float) (t : Tables) (a : Answer) → ((k : ℕ) → a ≡ Refused k → ⊥) → distanceOf s d t .answer ≡ a
     → advanceOf s (leavesOf s (splitOf s d)) (queueOf s (splitOf s d) t) ≡ a
 unfolding distanceOf decideOf acceptOf
-advanced s d t a n = go (eqb (refusalOf s (splitOf s d) t) 0)
+advanced s d t a n = go (eqb (refusalOf s (splitOf s d) d t) 0)
   where
-    go : (b : Bool) → cond b (acceptOf s (splitOf s d) d t) (outcome (Refused (refusalOf s (splitOf s d) t)) t) .answer ≡ a
+    go : (b : Bool) → cond b (acceptOf s (splitOf s d) d t) (outcome (Refused (refusalOf s (splitOf s d) d t)) t) .answer ≡ a
         → advanceOf s (leavesOf s (splitOf s d)) (queueOf s (splitOf s d) t) ≡ a
     go true e = e
     go false e = absurd (n _ (sym e))
@@ -93,18 +93,18 @@ pub distance-ends : (s : State) (d : Float) (t : Tables) (s' : State) → distan
 distance-ends s d t s' e = advance-ends s _ _ s' (advanced s d t (Finished s') (finished-refused s') e)
 
 -- a refused call gives the number of its refusal
-pub refused-number : (s : State) (d : Float) (t : Tables) (k : ℕ) → distanceOf s d t .answer ≡ Refused k → (refusalOf s (splitOf s d) t ≡ k) × (k ≡ 0 → ⊥)
+pub refused-number : (s : State) (d : Float) (t : Tables) (k : ℕ) → distanceOf s d t .answer ≡ Refused k → (refusalOf s (splitOf s d) d t ≡ k) × (k ≡ 0 → ⊥)
 unfolding distanceOf decideOf acceptOf advanceOf
-refused-number s d t k = go (eqb (refusalOf s (splitOf s d) t) 0) refl (ltb (s .nodes) (items (s .nodes + 1) (leavesOf s (splitOf s d)))) _ _ _ _
+refused-number s d t k = go (eqb (refusalOf s (splitOf s d) d t) 0) refl (ltb (s .nodes) (items (s .nodes + 1) (leavesOf s (splitOf s d)))) _ _ _ _
   where
-    go : (b : Bool) → eqb (refusalOf s (splitOf s d) t) 0 ≡ b → (c : Bool) (r : Request) (x y : State) (t' : Tables)
-        → cond b (outcome (cond c (Ask r x) (Finished y)) t') (outcome (Refused (refusalOf s (splitOf s d) t)) t) .answer ≡ Refused k
-        → (refusalOf s (splitOf s d) t ≡ k) × (k ≡ 0 → ⊥)
+    go : (b : Bool) → eqb (refusalOf s (splitOf s d) d t) 0 ≡ b → (c : Bool) (r : Request) (x y : State) (t' : Tables)
+        → cond b (outcome (cond c (Ask r x) (Finished y)) t') (outcome (Refused (refusalOf s (splitOf s d) d t)) t) .answer ≡ Refused k
+        → (refusalOf s (splitOf s d) d t ≡ k) × (k ≡ 0 → ⊥)
     go true f true r x y t' e = absurd (ask-refused r x k e)
     go true f false r x y t' e = absurd (finished-refused y k e)
     go false f c r x y t' e =
-        let i : refusalOf s (splitOf s d) t ≡ k = cc in
-        (i, λ z. eqb-false (refusalOf s (splitOf s d) t) 0 f (i ∙ z))
+        let i : refusalOf s (splitOf s d) d t ≡ k = cc in
+        (i, λ z. eqb-false (refusalOf s (splitOf s d) d t) 0 f (i ∙ z))
 
 -- ---- a run begins, and goes on while calls aren't refused
 
@@ -116,7 +116,7 @@ run-start bound lent h = (_, started (start-asks (ltb limit bound) _ _ _ (le-ltb
     start-asks b k r s e = rw e refl
 
 module _ {bound : ℕ} {lent : Tables} {given : List Float} (s : State) (t : Tables) (d : Float) (run : Run bound lent given s t) where
-  pub run-on : refusalOf s (splitOf s d) t ≡ 0 → (s' : State) × (t' : Tables) × Run bound lent (d ∷ given) s' t'
+  pub run-on : refusalOf s (splitOf s d) d t ≡ 0 → (s' : State) × (t' : Tables) × Run bound lent (d ∷ given) s' t'
   unfolding distanceOf acceptOf advanceOf
   run-on z = go (ltb (s .nodes) (items (s .nodes + 1) (leavesOf s (splitOf s d)))) _ _ _ _ (accepted s (splitOf s d) d t z)
     where

@@ -26,6 +26,7 @@ building bound lent given s t run =
       never-10 = λ d. never-10 s d t (fits-traced s t h);
       nodes = h .nodes;
       distances = h .distances;
+      finite-given = h .known;
       nodes-ascend = up;
       leaves-ascend = rises-ascend 0 (o .from) (leafKeys s t) (o .leaves-rise);
       leaf = λ i l.
@@ -41,6 +42,6 @@ building bound lent given s t run =
     }
 
 pub queue-of-64 : QueueOf64
-queue-of-64 bound lent given low room leaves queue l =
-    let r = run-of bound lent low room leaves queue given (omega arith) in
+queue-of-64 bound lent given low room leaves queue l all =
+    let r = run-of bound lent low room leaves queue given all (omega arith) in
     (r .0, r .1, r .2, done-after (r .0) (r .1) low (run-traced (r .2)) l)

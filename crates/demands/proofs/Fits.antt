@@ -1,7 +1,7 @@
 -- The counts and the cells of a run's states, and that the states fit their tables: 10 is never given. Assumes nothing.
 use Prim.Native.Nat.{ℕ, zero, suc, _+_, _-_, _*_, _≤_}
 use mathlib.Core.Path.{_≡_, refl, ap, subst}
-use mathlib.Core.Bool.{Bool, true, false, cond, _||_}
+use mathlib.Core.Bool.{Bool, true, false, cond, _||_, not}
 use mathlib.Core.List.{List, _∷_, _++_}
 use native.Mathlib.Omega.{arith}
 use native.Mathlib.Decide.{ℕ-discrete}
@@ -9,6 +9,7 @@ use lib.Dec.{eqb, leb, ltb}
 use lib.ListN.{length}
 use lib.Seq.{length-take-le}
 use lib.Ieee.{Float}
+use lib.Ieee.Scale.{finite}
 use borrow.Author.Tests.{eq-eqb, ne-eqb, le-leb, lt-leb}
 use Rattle.morton.specs.Level.{limit, level, Cell}
 use Rattle.build.specs.declared.Lengths.{Lengths}
@@ -109,24 +110,25 @@ module _ {bound : ℕ} {lent : Tables} {given : List Float} (s : State) (t : Tab
 
 -- ---- a call on a state that fits
 
-cond-most : (b : Bool) (x y n : ℕ) → x ≤ n → y ≤ n → cond b x y ≤ n
-cond-most true x y n h l = h
-cond-most false x y n h l = l
+cond-never : (b : Bool) (x y n : ℕ) → (x ≡ n → ⊥) → (y ≡ n → ⊥) → cond b x y ≡ n → ⊥
+cond-never true x y n h l = h
+cond-never false x y n h l = l
 
-refusal-below : (s : State) (split : Bool) (t : Tables) → fits s t ≡ true → refusalOf s split t ≤ 9
+refusal-other : (s : State) (split : Bool) (d : Float) (t : Tables) → fits s t ≡ true → refusalOf s split d t ≡ 10 → ⊥
 unfolding fits refusalOf refusalAt fullOf
-refusal-below s split t e =
+refusal-other s split d t e =
     rw e
-    (cond-most (eqb (s .asked) 0) _ _ 9 (omega arith)
-    (cond-most (eqb (s .nodes) (nodeRoom (lengthsOf t))) _ _ 9 (omega arith)
-    (cond-most split _ _ 9
-    (cond-most (ltb (s .lengths .queue) (7 * s .nodes - 8 * s .leaves + 8)) 8 0 9 (omega arith) (omega arith))
-    (cond-most (eqb (s .leaves) (s .lengths .leaves)) 7 0 9 (omega arith) (omega arith)))))
+    (cond-never (eqb (s .asked) 0) _ _ 10 (λ k. omega arith)
+    (cond-never (not (finite d)) _ _ 10 (λ k. omega arith)
+    (cond-never (eqb (s .nodes) (nodeRoom (lengthsOf t))) _ _ 10 (λ k. omega arith)
+    (cond-never split _ _ 10
+    (cond-never (ltb (s .lengths .queue) (7 * s .nodes - 8 * s .leaves + 8)) 8 0 10 (λ k. omega arith) (λ k. omega arith))
+    (cond-never (eqb (s .leaves) (s .lengths .leaves)) 7 0 10 (λ k. omega arith) (λ k. omega arith))))))
 
-pub refusal-none : (s : State) (split : Bool) (t : Tables) → fits s t ≡ true → (s .asked ≡ 0 → ⊥) → (s .nodes ≡ nodeRoom (lengthsOf t) → ⊥) → fullOf s split ≡ 0
-    → refusalOf s split t ≡ 0
+pub refusal-none : (s : State) (split : Bool) (d : Float) (t : Tables) → fits s t ≡ true → (s .asked ≡ 0 → ⊥) → finite d ≡ true → (s .nodes ≡ nodeRoom (lengthsOf t) → ⊥)
+    → fullOf s split ≡ 0 → refusalOf s split d t ≡ 0
 unfolding fits refusalOf refusalAt
-refusal-none s split t e n r f = rw (e, ne-eqb (s .asked) 0 n, ne-eqb (s .nodes) (nodeRoom (lengthsOf t)) r) f
+refusal-none s split d t e n k r f = rw (e, ne-eqb (s .asked) 0 n, k, ne-eqb (s .nodes) (nodeRoom (lengthsOf t)) r) f
 
 pub never-10 : (s : State) (d : Float) (t : Tables) → fits s t ≡ true → distanceOf s d t .answer ≡ Refused 10 → ⊥
-never-10 s d t e r = omega (arith, refusal-below s (splitOf s d) t e, refused-number s d t 10 r)
+never-10 s d t e r = refusal-other s (splitOf s d) d t e (refused-number s d t 10 r .0)

@@ -39,14 +39,14 @@ first-child q k item n e h =
 
 -- ---- the item that is asked next
 
-item-cell : (s : State) (t : Tables) (split : Bool) → (split ≡ true → level (s .asked) < finest (s .bound)) → refusalOf s split t ≡ 0
+item-cell : (s : State) (t : Tables) (split : Bool) (d : Float) → (split ≡ true → level (s .asked) < finest (s .bound)) → refusalOf s split d t ≡ 0
     → s .nodes < items (s .nodes + 1) (leavesOf s split) → cellTo (finest (s .bound)) (itemAt (queueOf s split t) (s .nodes)) ≡ true
 unfolding refusalOf leavesOf queueOf lengthsOf
-item-cell s t false above z l =
-    let p = passed _ _ _ _ _ _ z in
+item-cell s t false d above z l =
+    let p = passed _ _ d _ _ _ _ z in
     p .state .next (omega (arith, p .state .counted .few))
-item-cell s t true above z l =
-    let p = passed _ _ _ _ _ _ z in
+item-cell s t true d above z l =
+    let p = passed _ _ d _ _ _ _ z in
     let few = p .state .counted .few in
     let room = full-ring s (p .full) in
     let same = p .state .lengths .queue in
@@ -74,7 +74,7 @@ unfolding nextOf movedOf
 next-cell s s' d t t' r e n =
     let k = answer-took s t t' d (Ask r s') e (λ j. ask-refused r s' j) in
     let at : nextOf s (leavesOf s (splitOf s d)) (queueOf s (splitOf s d) t) ≡ s' .asked = ap (λ (x : State). x .asked) (k .state) in
-    go (ltb (s .nodes) (items (s .nodes + 1) (leavesOf s (splitOf s d)))) refl at (item-cell s t (splitOf s d) (split-above s d) (k .free))
+    go (ltb (s .nodes) (items (s .nodes + 1) (leavesOf s (splitOf s d)))) refl at (item-cell s t (splitOf s d) d (split-above s d) (k .free))
   where
     go : (b : Bool) → ltb (s .nodes) (items (s .nodes + 1) (leavesOf s (splitOf s d))) ≡ b → cond b (itemAt (queueOf s (splitOf s d) t) (s .nodes)) 0 ≡ s' .asked
         → (s .nodes < items (s .nodes + 1) (leavesOf s (splitOf s d)) → cellTo (finest (s .bound)) (itemAt (queueOf s (splitOf s d) t) (s .nodes)) ≡ true)

@@ -1,4 +1,5 @@
 -- The user's demands, proved: read Demands first. The others stand in the order in which they build on each other.
+pub mod Finite
 pub mod Rule
 pub mod Growth
 pub mod Cover

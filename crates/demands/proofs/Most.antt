@@ -13,7 +13,7 @@ use lib.ListN.{length, length-append}
 use borrow.Author.Tests.{le-leb, lt-leb}
 use Rattle.morton.specs.Level.{deepest, limit, level}
 use Rattle.morton.proofs.Levels.{eight-mono}
-use Rattle.tree.specs.Tree.{Tree, In, Sound}
+use Rattle.tree.specs.Tree.{Tree, In, AllFinite, Sound}
 use Rattle.tree.proofs.Lists.{in-cast, in-none, in-cases, in-one, in-left, in-right, in-append, has, has-in, has-not, asc-from}
 use Rattle.geometry.specs.Corner.{Corner, StrictlyInside}
 use Rattle.geometry.specs.Listing.{Listed}
@@ -26,6 +26,7 @@ use Rattle.vertices.specs.Listing.{Lists, Room, Short}
 use Rattle.demands.specs.Reading.{treeAfter}
 use Rattle.demands.specs.Most.{most, MostVertices, MostOfSoundTrees, MostOfFinishedBuilds}
 use Rattle.demands.proofs.Rule.{whole-level}
+use Rattle.demands.proofs.Finite.{finite-head, finite-tail}
 use Rattle.demands.proofs.Growth.{Grown}
 use Rattle.demands.proofs.Growth.Grown.{root, kept, divided}
 use Rattle.demands.proofs.Trace.{run-traced}
@@ -179,14 +180,15 @@ most-of-sound-trees t sound low =
     }
 
 -- no build leaves the root or a child of it whole
-grown-low : {bound : ℕ} {given : List Float} {nodes leaves pending : List ℕ} → Grown bound given nodes leaves pending → (k : ℕ) → In k leaves → 2 ≤ level k
-grown-low root k m = absurd (in-none m)
-grown-low {bound} (kept {k = j} {d} {leaves} e g) k m =
-    ⊎-elim (λ i. grown-low g k i) (λ i. omega (arith, ap level (in-one i), whole-level (level j) bound d e)) (in-append leaves (j ∷ []) m)
-grown-low (divided _ g) k m = grown-low g k m
+grown-low : {bound : ℕ} {given : List Float} {nodes leaves pending : List ℕ} → Grown bound given nodes leaves pending → AllFinite given → (k : ℕ) → In k leaves → 2 ≤ level k
+grown-low root all k m = absurd (in-none m)
+grown-low {bound} (kept {k = j} {d} {given} {leaves = leaves} e g) all k m =
+    ⊎-elim (λ i. grown-low g (finite-tail d given all) k i) (λ i. omega (arith, ap level (in-one i), whole-level (level j) bound d (finite-head d given all) e))
+    (in-append leaves (j ∷ []) m)
+grown-low (divided {d = d} {given = given} _ g) all k m = grown-low g (finite-tail d given all) k m
 
 pub most-of-finished-builds : MostOfFinishedBuilds
 most-of-finished-builds bound lent given s t run done =
     let h = run-traced run in
     subst (λ (splits : ℕ). MostVertices splits (treeAfter s t)) (ap₂ _-_ (nodes-count s t h) (leaves-count s t h))
-    (most-of-sound-trees (treeAfter s t) (finished-sound bound lent given s t run done) (grown-low (h .grown)))
+    (most-of-sound-trees (treeAfter s t) (finished-sound bound lent given s t run done) (grown-low (h .grown) (h .known)))

@@ -1,7 +1,7 @@
 -- Which lengths are enough for a build and which never are: specs/Rooms.antt, proved. Assumes nothing.
 use Prim.Native.Nat.{ℕ, _+_, _-_, _*_, _/_, _≤_, _<_}
 use mathlib.Core.Path.{_≡_, refl, sym, _∙_, ap}
-use mathlib.Core.Bool.{Bool, true, false, cond, true≢false}
+use mathlib.Core.Bool.{Bool, true, false, cond, not, true≢false}
 use mathlib.Core.List.{List, [], _∷_, _++_, reverse}
 use native.Mathlib.Omega.{arith}
 use native.Mathlib.Decide.{ℕ-discrete, decLt}
@@ -9,14 +9,17 @@ use lib.Dec.{eqb, ltb}
 use lib.ListN.{length, getD, take, List·getD-append, length-reverse}
 use lib.Seq.{getD-append-seam}
 use lib.Ieee.{Float}
+use lib.Ieee.Scale.{finite}
 use borrow.Author.Tests.{eqb-false, ne-eqb, lt-ltb, le-ltb}
 use Rattle.morton.specs.Level.{level}
 use Rattle.morton.specs.Split.{splits}
 use Rattle.morton.proofs.Levels.{cell-level}
+use Rattle.morton.proofs.Distance.{shallow}
 use Rattle.build.specs.declared.Lengths.{Lengths}
 use Rattle.build.specs.declared.State.{State}
 use Rattle.build.specs.Build.{Tables, lengthsOf, nodeRoom, fullOf, refusalOf, refusalAt, fits, splitOf, leavesOf, movedOf}
 use Rattle.build.proofs.Laws.{passed, full-ring}
+use Rattle.tree.specs.Tree.{AllFinite}
 use Rattle.tree.proofs.Lists.{in-at}
 use Rattle.geometry.proofs.Shape.{root-level}
 use Rattle.demands.specs.Run.{Run, nodeKeys, leafKeys, waiting, openCells, children, childrenOf}
@@ -28,6 +31,7 @@ use Rattle.demands.proofs.Call.{Took, answer-took, ask-refused, finishe
 use Rattle.demands.proofs.Trace.{Traced, run-traced, open-none, open-asked}
 use Rattle.demands.proofs.Fits.{nodes-count, leaves-count, open-count, count-done, count-busy, fits-traced, refusal-none}
 use Rattle.demands.proofs.Soundness.{in-children}
+use Rattle.demands.proofs.Finite.{finite-head, finite-reverse}
 
 -- ---- room that is enough
 
@@ -49,37 +53,38 @@ module _ {bound : ℕ} {lent : Tables} {given : List Float} (s : State) (t : Tab
     not-full true l = rw (le-ltb (s .lengths .queue) (7 * s .nodes - 8 * s .leaves + 8) (omega (arith, queue-same, room .queue, count-busy s t h asks))) refl
     not-full false l = rw (ne-eqb (s .leaves) (s .lengths .leaves) (λ e. omega (arith, leaves-same, room .leaves, count-busy s t h asks))) refl
 
-    pub room-free : (d : Float) → nodesWith s d ≤ n → refusalOf s (splitOf s d) t ≡ 0
-    room-free d l =
-        refusal-none s (splitOf s d) t (fits-traced s t h) asks
+    pub room-free : (d : Float) → finite d ≡ true → nodesWith s d ≤ n → refusalOf s (splitOf s d) d t ≡ 0
+    room-free d f l =
+        refusal-none s (splitOf s d) d t (fits-traced s t h) asks f
         (λ e. omega (arith, room .nodes, room-same, count-busy s t h asks))
         (not-full (splitOf s d) l)
 
 pub enough-room : EnoughRoom
-enough-room n bound lent given s t room run asks d k e = go (decLt n (nodesWith s d))
+enough-room n bound lent given s t room run asks d f k e = go (decLt n (nodesWith s d))
   where
     go : Dec (n < nodesWith s d) → n < nodesWith s d
     go (yes l) = l
     go (no l) =
         let r = refused-number s d t k e in
-        absurd (r .1 (sym (r .0) ∙ room-free s t (run-traced run) n room asks d (omega arith)))
+        absurd (r .1 (sym (r .0) ∙ room-free s t (run-traced run) n room asks d f (omega arith)))
 
 -- ---- 7 where the leaves have room for a full tree
 
-seven-by : (a b split q l : Bool) → (a ≡ false → b ≡ false → l ≡ false) → _≡_ {A = ℕ} (cond a 9 (cond b 6 (cond split (cond q 8 0) (cond l 7 0)))) 7 → ⊥
-seven-by true b split q l h e = omega arith
-seven-by false true split q l h e = omega arith
-seven-by false false true true l h e = omega arith
-seven-by false false true false l h e = omega arith
-seven-by false false false q true h e = true≢false (h refl refl)
-seven-by false false false q false h e = omega arith
+seven-by : (a f b split q l : Bool) → (a ≡ false → b ≡ false → l ≡ false) → _≡_ {A = ℕ} (cond a 9 (cond f 16 (cond b 6 (cond split (cond q 8 0) (cond l 7 0))))) 7 → ⊥
+seven-by true f b split q l h e = omega arith
+seven-by false true b split q l h e = omega arith
+seven-by false false true split q l h e = omega arith
+seven-by false false false true true l h e = omega arith
+seven-by false false false true false l h e = omega arith
+seven-by false false false false q true h e = true≢false (h refl refl)
+seven-by false false false false q false h e = omega arith
 
 pub enough-leaves : EnoughLeaves
 unfolding fits refusalOf refusalAt fullOf
 enough-leaves bound lent given s t room run d e =
     let h = run-traced run in
-    let c : refusalOf s (splitOf s d) t ≡ 7 = refused-number s d t 7 e .0 in
-    seven-by (eqb (s .asked) 0) (eqb (s .nodes) (nodeRoom (lengthsOf t))) (splitOf s d)
+    let c : refusalOf s (splitOf s d) d t ≡ 7 = refused-number s d t 7 e .0 in
+    seven-by (eqb (s .asked) 0) (not (finite d)) (eqb (s .nodes) (nodeRoom (lengthsOf t))) (splitOf s d)
     (ltb (s .lengths .queue) (7 * s .nodes - 8 * s .leaves + 8)) (eqb (s .leaves) (s .lengths .leaves))
     (λ a b.
     let asks = eqb-false (s .asked) 0 a in
@@ -145,7 +150,12 @@ took-cells s s' d t t' k few = ap cellsOf (sym (k .state)) ∙ go (splitOf s d)
 -- a cell was asked for
 took-asks : (s s' : State) (d : Float) (t t' : Tables) → Took s (splitOf s d) d t s' t' → s .asked ≡ 0 → ⊥
 unfolding refusalOf
-took-asks s s' d t t' k = passed _ _ _ _ _ _ (k .free) .asks
+took-asks s s' d t t' k = passed _ _ d _ _ _ _ (k .free) .asks
+
+-- and the distance is finite
+took-known : (s s' : State) (d : Float) (t t' : Tables) → Took s (splitOf s d) d t s' t' → finite d ≡ true
+unfolding refusalOf
+took-known s s' d t t' k = passed _ _ d _ _ _ _ (k .free) .known
 
 module _ (bound : ℕ) (large lent : Tables) (n : ℕ) (room : RoomFor n lent) where
   abbrev Reached : List Float → Type 0
@@ -162,7 +172,7 @@ module _ (bound : ℕ) (large lent : Tables) (n : ℕ) (room : RoomFor n lent) w
       let h₁ = run-traced run₁ in
       let asks₁ : s₁ .asked ≡ 0 → ⊥ = λ z. asks (same-done h₁ h z) in
       let same : nodesWith s₁ d ≡ nodesWith s d = rw (h₁ .nodes, same-count h₁ h, same-asked h₁ h asks₁ asks, h₁ .bound-same, ← (h .nodes), ← (h .bound-same)) refl in
-      run-on s₁ t₁ d run₁ (room-free s₁ t₁ h₁ n room asks₁ d (omega (arith, same)))
+      run-on s₁ t₁ d run₁ (room-free s₁ t₁ h₁ n room asks₁ d (took-known s s' d t t' k) (omega (arith, same)))
 
   reach : {given : List Float} {s : State} {t : Tables} → Run bound large given s t → cellsOf s ≤ n → Reached given
   reach (started e) l = let r = run-start bound lent (run-traced (started e) .bounded) in (r .0, lent, r .1)
@@ -178,14 +188,15 @@ finishes bound large lent given s t run done room =
 -- ---- a queue shorter than 64
 
 -- the first nine cells are the root and its children
-low-next : (bound next : ℕ) (ks more : List ℕ) (ds : List Float) → length ks ≡ length ds → length ks ≤ 8 → ks ++ (next ∷ more) ≡ 1 ∷ childrenOf bound ks ds → level next < 2
+low-next : (bound next : ℕ) (ks more : List ℕ) (ds : List Float) → AllFinite ds → length ks ≡ length ds → length ks ≤ 8 → ks ++ (next ∷ more) ≡ 1 ∷ childrenOf bound ks ds → level next < 2
 unfolding childrenOf
-low-next bound next [] more ds e l f = let o : next ≡ 1 = cc in omega (arith, ap level o, root-level)
-low-next bound next (k ∷ ks) more [] e l f = absurd (omega arith)
-low-next bound next (k ∷ ks) more (d ∷ ds) e l f =
+low-next bound next [] more ds all e l f = let o : next ≡ 1 = cc in omega (arith, ap level o, root-level)
+low-next bound next (k ∷ ks) more [] all e l f = absurd (omega arith)
+low-next bound next (k ∷ ks) more (d ∷ ds) all e l f =
     let o : k ≡ 1 = cc in
     let rest : ks ++ (next ∷ more) ≡ cond (splits (level k) bound d) (children k ++ childrenOf bound ks ds) (childrenOf bound ks ds) = cc in
-    go (rw (o, root-level) at rest)
+    let divides : true ≡ splits 0 bound d = sym (finite-head d ds all) ∙ shallow 0 bound d (omega arith) in
+    go (rw (o, root-level, ← divides) at rest)
   where
     go : ks ++ (next ∷ more) ≡ children 1 ++ childrenOf bound ks ds → level next < 2
     go c =
@@ -204,11 +215,11 @@ module _ {bound : ℕ} (lent : Tables) (short : length (lent .queue) < 64) where
   unfolding refusalOf movedOf leavesOf splitOf
   few-on {given} d s s' t t' run k (none, few) =
       let h = run-traced run in
-      let p = passed _ _ _ _ _ _ (k .free) in
+      let p = passed _ _ d _ _ _ _ (k .free) in
       let low : level (s .asked) < 2 =
-      low-next bound (s .asked) (nodeKeys s t) (waiting s t) (reverse given) (nodes-count s t h ∙ h .nodes ∙ sym (length-reverse given)) (omega (arith, nodes-count s t h))
+      low-next bound (s .asked) (nodeKeys s t) (waiting s t) (reverse given) (finite-reverse given (h .known)) (nodes-count s t h ∙ h .nodes ∙ sym (length-reverse given)) (omega (arith, nodes-count s t h))
       (ap (λ (xs : List ℕ). nodeKeys s t ++ xs) (sym (open-asked s t (p .asks))) ∙ grown-all (h .grown)) in
-      let split : splitOf s d ≡ true = rw (lt-ltb (level (s .asked)) 2 low) refl in
+      let split : splitOf s d ≡ true = sym (shallow (level (s .asked)) (s .bound) d low) ∙ p .known in
       let ring = full-ring s (rw split at p .full) in
       rw (← (k .state), split) (none, omega (arith, ring, queue-same s t h))
 

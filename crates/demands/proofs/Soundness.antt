@@ -13,7 +13,7 @@ use Rattle.build.specs.declared.State.{State}
 use Rattle.build.specs.Build.{Tables, finest}
 use Rattle.geometry.specs.Grid.{Cells}
 use Rattle.tree.proofs.Lists.{in-cast, in-head, in-tail, in-none, in-cases, in-one, in-left, in-right, in-append}
-use Rattle.tree.specs.Tree.{StandsAt, In, AllChildren, NoChild, Sound}
+use Rattle.tree.specs.Tree.{StandsAt, In, AllChildren, NoChild, AllFinite, Sound}
 use Rattle.demands.specs.Run.{Run, nodeKeys, leafKeys, childrenFrom, children}
 use Rattle.demands.specs.Reading.{treeAfter}
 use Rattle.demands.proofs.Growth.{Grown}
@@ -21,6 +21,7 @@ use Rattle.demands.proofs.Growth.Grown.{root, kept, divided}
 use Rattle.demands.proofs.Cover.{cells-append, cells-right, grown-covers}
 use Rattle.demands.proofs.Order.{Rises, rises-in, rises-ascend, grown-ordered}
 use Rattle.demands.proofs.Rule.{finest-deep}
+use Rattle.demands.proofs.Finite.{finite-reverse}
 use Rattle.demands.proofs.Trace.{Traced, open-none, run-traced}
 use Rattle.demands.proofs.Fits.{nodes-count}
 
@@ -174,6 +175,7 @@ module _ {bound : ℕ} {lent : Tables} {given : List Float} (s : State) (t : Tab
       let k = tree-akin in
       record {
         as-many = tree-pairs;
+        all-finite = subst AllFinite (sym (h .distances)) (finite-reverse given (h .known));
         ascending = rises-ascend 0 (o .from) (nodeKeys s t) (o .nodes-rise);
         first = k .first;
         cells = λ m i. (tree-cell m i .0, omega (arith, tree-cell m i .1, h .bounded));

@@ -20,6 +20,7 @@ use Rattle.build.specs.declared.Answer.the-variants.{Ask, Refused}
 use Rattle.build.specs.Build.{Tables, lengthsOf, nodeRoom, finest, items, itemAt, fullOf, refusalOf, splitOf, queueOf, storedOf, leavesOf, movedOf, startOf}
 use Rattle.build.proofs.Ring.{length-children}
 use Rattle.build.proofs.Laws.{passed, full-leaf, full-ring, ready}
+use Rattle.tree.specs.Tree.{AllFinite}
 use Rattle.geometry.specs.Grid.{Cells}
 use Rattle.demands.specs.Run.{Run, nodeKeys, leafKeys, itemsFrom, waiting, openCells}
 use Rattle.demands.specs.Run.Run.{started, asked, finished}
@@ -27,6 +28,7 @@ use Rattle.demands.proofs.Growth.{Grown}
 use Rattle.demands.proofs.Growth.Grown.{root, kept, divided}
 use Rattle.demands.proofs.Cover.{cells-right, grown-covers}
 use Rattle.demands.proofs.Rule.{finest-deep}
+use Rattle.demands.proofs.Finite.{finite-none, finite-more}
 use Rattle.demands.proofs.Items.{items-stored}
 use Rattle.demands.proofs.Call.{nextOf, stateAfter, Took, answer-took, ask-refused, finished-refused}
 
@@ -41,9 +43,10 @@ pub record Traced (bound : ℕ) (lent : Tables) (given : List Float) (s : State)
   pub bounded : bound ≤ limit
   pub lengths-same : s .lengths ≡ lengthsOf lent
   pub tables-same : s .lengths ≡ lengthsOf t
-  -- a node for each distance
+  -- a node for each distance, and each is finite
   pub nodes : s .nodes ≡ length given
   pub distances : take (s .nodes) (t .distances) ≡ reverse given
+  pub known : AllFinite given
   -- room
   pub node-room : s .nodes ≤ nodeRoom (s .lengths)
   pub leaf-room : s .leaves ≤ s .lengths .leaves
@@ -97,22 +100,22 @@ module _ (bound : ℕ) (deep : finest bound ≤ deepest) (given : List Float) (s
   grown-asked n = rw (open-asked s t n) at g
 
   -- the asked cell goes to the nodes, item n is taken
-  grown-stored : (split : Bool) (leaves : List ℕ) → refusalOf s split t ≡ 0 → leavesOf s split ≤ s .nodes + 1 → take (leavesOf s split) (storedOf s split d t .leaves) ≡ leaves
+  grown-stored : (split : Bool) (leaves : List ℕ) → refusalOf s split d t ≡ 0 → leavesOf s split ≤ s .nodes + 1 → take (leavesOf s split) (storedOf s split d t .leaves) ≡ leaves
       → Grown bound (d ∷ given) (nodeKeys s t ++ (s .asked ∷ [])) leaves (itemsFrom (queueOf s split t) (s .nodes) (items (s .nodes + 1) (leavesOf s split) - s .nodes))
       → GrownIn bound (d ∷ given) (stateAfter s split t) (storedOf s split d t)
   unfolding storedOf movedOf
   grown-stored split leaves z few e n =
       rw (
-        take-set (t .keys) (s .nodes) (s .asked) (ready s split t z .key-room),
+        take-set (t .keys) (s .nodes) (s .asked) (ready s split d t z .key-room),
         e,
         open-moved (finest bound) (leavesOf s split) s (storedOf s split d t) few (cells-right (finest bound) leaves _ (grown-covers deep n .cells)),
       ) n
 
-  grown-step : (split : Bool) → refusalOf s split t ≡ 0 → splits (level (s .asked)) bound d ≡ split
+  grown-step : (split : Bool) → refusalOf s split d t ≡ 0 → splits (level (s .asked)) bound d ≡ split
       → GrownIn bound (d ∷ given) (stateAfter s split t) (storedOf s split d t)
   unfolding refusalOf leavesOf storedOf queueOf lengthsOf
   grown-step true z rule =
-      let p = passed _ _ _ _ _ _ z in
+      let p = passed _ _ d _ _ _ _ z in
       let k = 7 * s .nodes - 8 * s .leaves in
       let room : k + 8 ≤ length (t .queue) = omega (arith, full-ring s (p .full), p .state .lengths .queue) in
       let at : items (s .nodes) (s .leaves) ≡ s .nodes + k = omega (arith, p .state .waiting) in
@@ -120,10 +123,10 @@ module _ (bound : ℕ) (deep : finest bound ≤ deepest) (given : List Float) (s
       grown-stored true (leafKeys s t) z (omega (arith, p .state .waiting)) refl
       (rw (at, more, items-stored (t .queue) (s .asked) (s .nodes) k room) (divided rule (grown-asked (p .asks))))
   grown-step false z rule =
-      let p = passed _ _ _ _ _ _ z in
+      let p = passed _ _ d _ _ _ _ z in
       let same : items (s .nodes + 1) (s .leaves + 1) - s .nodes ≡ 7 * s .nodes - 8 * s .leaves = omega (arith, p .state .waiting) in
       grown-stored false (leafKeys s t ++ (s .asked ∷ [])) z (omega (arith, p .state .waiting))
-      (take-set (t .leaves) (s .leaves) (s .asked) (ready s false t z .leaf-room refl))
+      (take-set (t .leaves) (s .leaves) (s .asked) (ready s false d t z .leaf-room refl))
       (rw same (kept rule (grown-asked (p .asks))))
 
 module _ {bound : ℕ} {lent : Tables} {given : List Float} (s : State) (t : Tables) (d : Float) (h : Traced bound lent given s t) where
@@ -137,10 +140,10 @@ module _ {bound : ℕ} {lent : Tables} {given : List Float} (s : State) (t : Tab
   queue-room-after true f w = omega (arith, full-ring s f)
   queue-room-after false f w = omega (arith, h .queue-room)
 
-  moved-traced : refusalOf s (splitOf s d) t ≡ 0 → Traced bound lent (d ∷ given) (stateAfter s (splitOf s d) t) (storedOf s (splitOf s d) d t)
+  moved-traced : refusalOf s (splitOf s d) d t ≡ 0 → Traced bound lent (d ∷ given) (stateAfter s (splitOf s d) t) (storedOf s (splitOf s d) d t)
   unfolding movedOf refusalOf splitOf storedOf
   moved-traced z =
-      let p = passed _ _ _ _ _ _ z in
+      let p = passed _ _ d _ _ _ _ z in
       record {
         bound-same = h .bound-same;
         bounded = h .bounded;
@@ -148,9 +151,10 @@ module _ {bound : ℕ} {lent : Tables} {given : List Float} (s : State) (t : Tab
         tables-same = h .tables-same ∙ lengths-stored s (splitOf s d) d t;
         nodes = omega (arith, h .nodes);
         distances =
-            take-set (t .distances) (s .nodes) d (ready s (splitOf s d) t z .distance-room)
+            take-set (t .distances) (s .nodes) d (ready s (splitOf s d) d t z .distance-room)
             ∙ ap (λ (xs : List Float). xs ++ (d ∷ [])) (h .distances)
             ∙ sym (reverse-cons d given);
+        known = finite-more d given (p .known) (h .known);
         node-room = rw (h .tables-same) (omega (arith, p .nodes));
         leaf-room = leaf-room-after (splitOf s d) (p .full);
         queue-room = queue-room-after (splitOf s d) (p .full) (p .state .waiting);
@@ -174,6 +178,7 @@ start-traced bound lent r s e =
       tables-same = refl;
       nodes = refl;
       distances = refl;
+      known = finite-none;
       node-room = omega arith;
       leaf-room = omega arith;
       queue-room = omega arith;

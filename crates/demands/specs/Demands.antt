@@ -1,4 +1,4 @@
--- Demand 3 of the user, the half that speaks of building, with demand 2's split rule. proofs/Demands.antt proves each of these.
+-- Demand 3 of the user, the half that speaks of building, with demand 2's split rule for finite distances. proofs/Demands.antt proves each of these.
 use Prim.Native.Nat.{ℕ, _+_, _*_, _≤_, _<_}
 use mathlib.Core.Path.{_≡_}
 use mathlib.Core.Bool.{true, not}
@@ -11,7 +11,7 @@ use Rattle.build.specs.declared.State.{State}
 use Rattle.build.specs.declared.Answer.the-variants.{Refused}
 use Rattle.build.specs.Build.{Tables, finest, nodeRoom, lengthsOf, fits, distanceOf}
 use Rattle.geometry.specs.Grid.{Covers}
-use Rattle.tree.specs.Tree.{In, Ascending, Decides}
+use Rattle.tree.specs.Tree.{In, Ascending, AllFinite, Decides}
 use Rattle.demands.specs.Run.{Run, nodeKeys, leafKeys, openCells, wholeOf, childrenOf}
 
 -- What holds after every accepted distance of a build, and at its start.
@@ -24,6 +24,8 @@ pub record AfterEveryDistance (bound : ℕ) (lent : Tables) (given : List Float)
   -- There is a node for each distance, in the order given; node and leaf keys are strictly ascending.
   pub nodes : s .nodes ≡ length given
   pub distances : take (s .nodes) (t .distances) ≡ reverse given
+  -- Every distance of a build is finite: any other is refused.
+  pub finite-given : AllFinite given
   pub nodes-ascend : Ascending (nodeKeys s t)
   pub leaves-ascend : Ascending (leafKeys s t)
   -- The node at a place is a leaf exactly if document 01's rule doesn't split it for the distance there; there are no other leaves.
@@ -44,10 +46,10 @@ Building =
     (bound : ℕ) (lent : Tables) (given : List Float) (s : State) (t : Tables)
     → Run bound lent given s t → AfterEveryDistance bound lent given s t
 
--- Places of taken queue items are used again: 72 items go through a queue of 64, and bound 2 is finished by any 73 distances.
+-- Places of taken queue items are used again: 72 items go through a queue of 64, and bound 2 is finished by any 73 finite distances.
 abbrev pub QueueOf64 : Type 0
 QueueOf64 =
     (bound : ℕ) (lent : Tables) (given : List Float)
     → bound ≤ 2 → 73 ≤ nodeRoom (lengthsOf lent) → 64 ≤ length (lent .leaves) → 64 ≤ length (lent .queue)
-    → length given ≡ 73
+    → length given ≡ 73 → AllFinite given
     → (s : State) × (t : Tables) × Run bound lent given s t × (s .asked ≡ 0)

@@ -1,10 +1,11 @@
 -- Which lengths of the lent tables are enough for a build, and which never are. proofs/Rooms.antt proves each of these.
 use Prim.Native.Nat.{ℕ, _+_, _-_, _*_, _/_, _≤_, _<_}
 use mathlib.Core.Path.{_≡_}
-use mathlib.Core.Bool.{cond}
+use mathlib.Core.Bool.{true, cond}
 use mathlib.Core.List.{List}
 use lib.ListN.{length}
 use lib.Ieee.{Float}
+use lib.Ieee.Scale.{finite}
 use Rattle.build.specs.declared.State.{State}
 use Rattle.build.specs.declared.Answer.the-variants.{Refused}
 use Rattle.build.specs.Build.{Tables, nodeRoom, lengthsOf, splitOf, distanceOf}
@@ -22,12 +23,12 @@ pub record RoomFor (n : ℕ) (lent : Tables) : Type 0 where
 abbrev pub nodesWith : State → Float → ℕ
 nodesWith s d = 1 + 8 * (s .nodes - s .leaves + cond {A = ℕ} (splitOf s d) 1 0)
 
--- With room for n nodes a distance that is asked for is refused only where the tree has more than n.
+-- With room for n nodes a finite distance that is asked for is refused only where the tree has more than n.
 abbrev pub EnoughRoom : Type 0
 EnoughRoom =
     (n bound : ℕ) (lent : Tables) (given : List Float) (s : State) (t : Tables)
     → RoomFor n lent → Run bound lent given s t → (s .asked ≡ 0 → ⊥)
-    → (d : Float) (k : ℕ) → distanceOf s d t .answer ≡ Refused k → n < nodesWith s d
+    → (d : Float) → finite d ≡ true → (k : ℕ) → distanceOf s d t .answer ≡ Refused k → n < nodesWith s d
 
 -- With room for as many nodes as the node room says there is always room for another leaf.
 abbrev pub EnoughLeaves : Type 0
