@@ -12,7 +12,7 @@ use Rattle.demands.specs.Demands.{Building, QueueOf64}
 use Rattle.demands.proofs.Growth.{whole-exactly, grown-leaves, grown-all}
 use Rattle.demands.proofs.Order.{grown-ordered, rises-ascend}
 use Rattle.demands.proofs.Trace.{run-traced}
-use Rattle.demands.proofs.Fits.{nodes-count, covers, count-done, fits-traced, never-10}
+use Rattle.demands.proofs.Fits.{nodes-count, covers, count-done, fits-traced, never-10, broken-refused, only-broken}
 use Rattle.demands.proofs.Queue.{done-after, run-of}
 
 pub building : Building
@@ -24,6 +24,8 @@ building bound lent given s t run =
       covers = covers s t h;
       fitting = fits-traced s t h;
       never-10 = λ d. never-10 s d t (fits-traced s t h);
+      broken-refused = λ asks d. broken-refused s d t (fits-traced s t h) asks;
+      only-broken = λ d. only-broken s d t;
       nodes = h .nodes;
       distances = h .distances;
       finite-given = h .known;

@@ -1,6 +1,6 @@
 -- The counts and the cells of a run's states, and that the states fit their tables: 10 is never given. Assumes nothing.
 use Prim.Native.Nat.{ℕ, zero, suc, _+_, _-_, _*_, _≤_}
-use mathlib.Core.Path.{_≡_, refl, ap, subst}
+use mathlib.Core.Path.{_≡_, refl, sym, ap, subst}
 use mathlib.Core.Bool.{Bool, true, false, cond, _||_, not}
 use mathlib.Core.List.{List, _∷_, _++_}
 use native.Mathlib.Omega.{arith}
@@ -15,8 +15,8 @@ use Rattle.morton.specs.Level.{limit, level, Cell}
 use Rattle.build.specs.declared.Lengths.{Lengths}
 use Rattle.build.specs.declared.State.{State}
 use Rattle.build.specs.declared.Answer.the-variants.{Refused}
-use Rattle.build.specs.Build.{Tables, lengthsOf, nodeRoom, finest, itemAt, cellTo, sameLengths, countsFit, idleFits, busyFits, fitsAt, fits, fullOf, refusalAt, refusalOf, splitOf, distanceOf}
-use Rattle.build.proofs.Laws.{to-cell}
+use Rattle.build.specs.Build.{Tables, Outcome, lengthsOf, nodeRoom, finest, itemAt, cellTo, sameLengths, countsFit, idleFits, busyFits, fitsAt, fits, fullOf, refusalAt, refusalOf, splitOf, distanceOf}
+use Rattle.build.proofs.Laws.{to-cell, refused}
 use Rattle.geometry.specs.Grid.{Cells, Covers}
 use Rattle.demands.specs.Run.{nodeKeys, leafKeys, itemsFrom, waiting, openCells}
 use Rattle.demands.proofs.Growth.{grown-count}
@@ -110,20 +110,24 @@ module _ {bound : ℕ} {lent : Tables} {given : List Float} (s : State) (t : Tab
 
 -- ---- a call on a state that fits
 
-cond-never : (b : Bool) (x y n : ℕ) → (x ≡ n → ⊥) → (y ≡ n → ⊥) → cond b x y ≡ n → ⊥
-cond-never true x y n h l = h
-cond-never false x y n h l = l
+cond-most : (b : Bool) (x y n : ℕ) → x ≤ n → y ≤ n → cond b x y ≤ n
+cond-most true x y n h l = h
+cond-most false x y n h l = l
 
-refusal-other : (s : State) (split : Bool) (d : Float) (t : Tables) → fits s t ≡ true → refusalOf s split d t ≡ 10 → ⊥
-unfolding fits refusalOf refusalAt fullOf
-refusal-other s split d t e =
-    rw e
-    (cond-never (eqb (s .asked) 0) _ _ 10 (λ k. omega arith)
-    (cond-never (not (finite d)) _ _ 10 (λ k. omega arith)
-    (cond-never (eqb (s .nodes) (nodeRoom (lengthsOf t))) _ _ 10 (λ k. omega arith)
-    (cond-never split _ _ 10
-    (cond-never (ltb (s .lengths .queue) (7 * s .nodes - 8 * s .leaves + 8)) 8 0 10 (λ k. omega arith) (λ k. omega arith))
-    (cond-never (eqb (s .leaves) (s .lengths .leaves)) 7 0 10 (λ k. omega arith) (λ k. omega arith))))))
+pub full-most : (s : State) (split : Bool) → fullOf s split ≤ 8
+unfolding fullOf
+full-most s true = cond-most (ltb (s .lengths .queue) (7 * s .nodes - 8 * s .leaves + 8)) 8 0 8 (omega arith) (omega arith)
+full-most s false = cond-most (eqb (s .leaves) (s .lengths .leaves)) 7 0 8 (omega arith) (omega arith)
+
+refusal-not-10 : (s : State) (split : Bool) (d : Float) (t : Tables) → fits s t ≡ true → refusalOf s split d t ≡ 10 → ⊥
+unfolding fits refusalOf refusalAt
+refusal-not-10 s split d t e = rw e (go (eqb (s .asked) 0) (finite d) (eqb (s .nodes) (nodeRoom (lengthsOf t))))
+  where
+    go : (b f c : Bool) → cond {A = ℕ} b 9 (cond (not f) 16 (cond c 6 (fullOf s split))) ≡ 10 → ⊥
+    go true f c e = omega arith
+    go false false c e = omega arith
+    go false true true e = omega arith
+    go false true false e = omega (arith, full-most s split)
 
 pub refusal-none : (s : State) (split : Bool) (d : Float) (t : Tables) → fits s t ≡ true → (s .asked ≡ 0 → ⊥) → finite d ≡ true → (s .nodes ≡ nodeRoom (lengthsOf t) → ⊥)
     → fullOf s split ≡ 0 → refusalOf s split d t ≡ 0
@@ -131,4 +135,29 @@ unfolding fits refusalOf refusalAt
 refusal-none s split d t e n k r f = rw (e, ne-eqb (s .asked) 0 n, k, ne-eqb (s .nodes) (nodeRoom (lengthsOf t)) r) f
 
 pub never-10 : (s : State) (d : Float) (t : Tables) → fits s t ≡ true → distanceOf s d t .answer ≡ Refused 10 → ⊥
-never-10 s d t e r = refusal-other s (splitOf s d) d t e (refused-number s d t 10 r .0)
+never-10 s d t e r = refusal-not-10 s (splitOf s d) d t e (refused-number s d t 10 r .0)
+
+-- ---- 16, exactly where the distance isn't finite
+
+pub refusal-broken : (s : State) (split : Bool) (d : Float) (t : Tables) → fits s t ≡ true → (s .asked ≡ 0 → ⊥) → finite d ≡ false → refusalOf s split d t ≡ 16
+unfolding fits refusalOf refusalAt
+refusal-broken s split d t e n f = rw (e, ne-eqb (s .asked) 0 n, f) refl
+
+pub broken-refused : (s : State) (d : Float) (t : Tables) → fits s t ≡ true → (s .asked ≡ 0 → ⊥) → finite d ≡ false → distanceOf s d t .answer ≡ Refused 16
+unfolding distanceOf
+broken-refused s d t e n f =
+    ap (λ (o : Outcome). o .answer) (sym (refused s (splitOf s d) d t 16 (sym (refusal-broken s (splitOf s d) d t e n f)) (λ z. omega arith)))
+
+pub refusal-16 : (s : State) (split : Bool) (d : Float) (t : Tables) → refusalOf s split d t ≡ 16 → finite d ≡ false
+unfolding refusalOf refusalAt
+refusal-16 s split d t = go (fitsAt s _ _ _ _) (eqb (s .asked) 0) (finite d) (eqb (s .nodes) (nodeRoom (lengthsOf t)))
+  where
+    go : (a b f c : Bool) → cond {A = ℕ} (not a) 10 (cond b 9 (cond (not f) 16 (cond c 6 (fullOf s split)))) ≡ 16 → f ≡ false
+    go false b f c e = absurd (omega arith)
+    go true true f c e = absurd (omega arith)
+    go true false false c e = refl
+    go true false true true e = absurd (omega arith)
+    go true false true false e = absurd (omega (arith, full-most s split))
+
+pub only-broken : (s : State) (d : Float) (t : Tables) → distanceOf s d t .answer ≡ Refused 16 → finite d ≡ false
+only-broken s d t e = refusal-16 s (splitOf s d) d t (refused-number s d t 16 e .0)

@@ -1,10 +1,11 @@
 -- Demand 3 of the user, the half that speaks of building, with demand 2's split rule for finite distances. proofs/Demands.antt proves each of these.
 use Prim.Native.Nat.{ℕ, _+_, _*_, _≤_, _<_}
 use mathlib.Core.Path.{_≡_}
-use mathlib.Core.Bool.{true, not}
+use mathlib.Core.Bool.{true, false, not}
 use mathlib.Core.List.{List, _∷_, _++_, reverse}
 use lib.ListN.{length, getD, take}
 use lib.Ieee.{Float, nan}
+use lib.Ieee.Scale.{finite}
 use Rattle.morton.specs.Level.{level}
 use Rattle.morton.specs.Split.{splits}
 use Rattle.build.specs.declared.State.{State}
@@ -21,6 +22,9 @@ pub record AfterEveryDistance (bound : ℕ) (lent : Tables) (given : List Float)
   -- The state fits its tables: refusal 10 never comes, whatever distance is given next.
   pub fitting : fits s t ≡ true
   pub never-10 : (d : Float) → distanceOf s d t .answer ≡ Refused 10 → ⊥
+  -- While a cell is asked for, an infinite or NaN distance is refused with 16, full tables or not, and no finite one is.
+  pub broken-refused : (s .asked ≡ 0 → ⊥) → (d : Float) → finite d ≡ false → distanceOf s d t .answer ≡ Refused 16
+  pub only-broken : (d : Float) → distanceOf s d t .answer ≡ Refused 16 → finite d ≡ false
   -- There is a node for each distance, in the order given; node and leaf keys are strictly ascending.
   pub nodes : s .nodes ≡ length given
   pub distances : take (s .nodes) (t .distances) ≡ reverse given

@@ -7,6 +7,7 @@ use native.Mathlib.Omega.{arith}
 use lib.Dec.{eqb, ltb}
 use lib.ListN.{length}
 use lib.Ieee.{Float}
+use lib.Ieee.Scale.{finite}
 use borrow.Author.Tests.{eqb-true, eqb-false, eq-eqb, ltb-true}
 use Rattle.morton.specs.Level.{limit}
 use Rattle.build.specs.declared.Request.{Request}
@@ -15,6 +16,7 @@ use Rattle.build.specs.declared.Answer.{Answer}
 use Rattle.build.specs.declared.Answer.the-variants.{Ask, Finished, Refused}
 use Rattle.build.specs.Build.{Tables, Outcome, outcome, requestOf, items, itemAt, lengthsOf, nodeRoom, fits, fullOf, refusalOf, refusalAt, splitOf, movedOf, advanceOf, acceptOf, decideOf, distanceOf, startOf}
 use Rattle.demands.proofs.Call.{ask-refused, finished-refused, advanced}
+use Rattle.demands.proofs.Fits.{full-most}
 use Rattle.mittenhelm_builds.specs.Words.{stateOf, wordsOf, Reply, reply, handOver, startReplies, Effect, effect, effectOf, distanceEffect}
 
 -- ---- what the build answers
@@ -30,7 +32,7 @@ advance-answers s m queue k = go (ltb (s .nodes) (items (s .nodes + 1) m)) _ _ _
 -- a refusal isn't 0, and keeps the tables
 pub distance-refused : (s : State) (d : Float) (t : Tables) (k : ℕ) (t' : Tables) → distanceOf s d t ≡ outcome (Refused k) t' → (k ≡ 0 → ⊥) × (t' ≡ t)
 unfolding distanceOf decideOf acceptOf
-distance-refused s d t k t' = go (eqb (refusalOf s (splitOf s d) t) 0) (refusalOf s (splitOf s d) t) refl
+distance-refused s d t k t' = go (eqb (refusalOf s (splitOf s d) d t) 0) (refusalOf s (splitOf s d) d t) refl
   where
     go : (b : Bool) (n : ℕ) → eqb n 0 ≡ b → cond b (acceptOf s (splitOf s d) d t) (outcome (Refused n) t) ≡ outcome (Refused k) t' → (k ≡ 0 → ⊥) × (t' ≡ t)
     go true n f e = absurd (advance-answers _ _ _ k (ap (λ (o : Outcome). o .answer) e))
@@ -71,7 +73,7 @@ hands-0 (Refused k) words places n = absurd (n k refl)
 
 -- of eight words it is the number of the build
 pub number-is : (words : List ℕ) (d : Float) (t : Tables) (places : Request) → length words ≡ 8
-    → distanceEffect words d t places .said .number ≡ refusalOf (stateOf words) (splitOf (stateOf words) d) t
+    → distanceEffect words d t places .said .number ≡ refusalOf (stateOf words) (splitOf (stateOf words) d) d t
 unfolding distanceEffect effectOf distanceOf decideOf acceptOf handOver
 number-is words d t places l = rw (eq-eqb (length words) 8 l) (go (eqb n 0) n refl)
   where
@@ -79,36 +81,28 @@ number-is words d t places l = rw (eq-eqb (length words) 8 l) (go (eqb n 0) n re
     s = stateOf words
 
     n : ℕ
-    n = refusalOf s (splitOf s d) t
+    n = refusalOf s (splitOf s d) d t
 
     go : (b : Bool) (n : ℕ) → eqb n 0 ≡ b → handOver (cond b (acceptOf s (splitOf s d) d t) (outcome (Refused n) t) .answer) words places .number ≡ n
     go true n f = hands-0 _ words places (advance-answers _ _ _) ∙ sym (eqb-true n 0 f)
     go false n f = refl
 
-or-none : (k : ℕ) → (k ≡ 9 → ⊥) → (b : Bool) → cond b k 0 ≡ 9 → ⊥
-or-none k n true e = n e
-or-none k n false e = omega arith
-
 -- 9 is for a state that asks for nothing
-module _ (s : State) (split : Bool) (t : Tables) where
-  pub asks-nothing : fits s t ≡ true → s .asked ≡ 0 → refusalOf s split t ≡ 9
+module _ (s : State) (split : Bool) (d : Float) (t : Tables) where
+  pub asks-nothing : fits s t ≡ true → s .asked ≡ 0 → refusalOf s split d t ≡ 9
   unfolding refusalOf refusalAt fits
   asks-nothing f e = rw (f, eq-eqb (s .asked) 0 e) refl
 
-  full-not-9 : (split : Bool) → fullOf s split ≡ 9 → ⊥
-  unfolding fullOf
-  full-not-9 true = or-none 8 (λ e. omega arith) (ltb (s .lengths .queue) (7 * s .nodes - 8 * s .leaves + 8))
-  full-not-9 false = or-none 7 (λ e. omega arith) (eqb (s .leaves) (s .lengths .leaves))
-
-  pub nothing-asked : refusalOf s split t ≡ 9 → s .asked ≡ 0
+  pub nothing-asked : refusalOf s split d t ≡ 9 → s .asked ≡ 0
   unfolding refusalOf refusalAt fits
-  nothing-asked = go (fits s t) (eqb (s .asked) 0) (eqb (s .nodes) (nodeRoom (lengthsOf t))) refl
+  nothing-asked = go (fits s t) (eqb (s .asked) 0) (finite d) (eqb (s .nodes) (nodeRoom (lengthsOf t))) refl
     where
-      go : (a b c : Bool) → eqb (s .asked) 0 ≡ b → cond {A = ℕ} (not a) 10 (cond b 9 (cond c 6 (fullOf s split))) ≡ 9 → s .asked ≡ 0
-      go false b c f e = absurd (omega arith)
-      go true true c f e = eqb-true (s .asked) 0 f
-      go true false true f e = absurd (omega arith)
-      go true false false f e = absurd (full-not-9 split e)
+      go : (a b f c : Bool) → eqb (s .asked) 0 ≡ b → cond {A = ℕ} (not a) 10 (cond b 9 (cond (not f) 16 (cond c 6 (fullOf s split)))) ≡ 9 → s .asked ≡ 0
+      go false b f c n e = absurd (omega arith)
+      go true true f c n e = eqb-true (s .asked) 0 n
+      go true false false c n e = absurd (omega arith)
+      go true false true true n e = absurd (omega arith)
+      go true false true false n e = absurd (omega (arith, full-most s split))
 
 -- ---- what a call hands over
 

@@ -29,7 +29,7 @@ use Rattle.demands.specs.Run.Run.{started as run-started, asked as run-asked, f
 use Rattle.demands.specs.Reading.{HoldsAlone, LeafCell, Reading}
 use Rattle.demands.proofs.Call.{ask-refused, distance-ends}
 use Rattle.demands.proofs.Trace.{run-traced}
-use Rattle.demands.proofs.Fits.{leaves-count, count-done}
+use Rattle.demands.proofs.Fits.{leaves-count, count-done, refusal-broken, refusal-16}
 use Rattle.demands.proofs.Demands.{building, queue-of-64}
 use Rattle.demands.proofs.Reading.{of-finished-builds}
 use Rattle.mittenhelm_builds.specs.Words.{stateOf, wordsOf, Reply, reply, handOver, startReplies, Effect, effect, effectOf, distanceEffect}
@@ -117,7 +117,7 @@ hosts-building host bound lent given words t h =
     let a = building bound lent given s t (r .0) in
     let k = run-traced (r .0) in
     let w = told-read words (r .1) in
-    let at : (d : Float) (places : Request) → returned words d t places ≡ refusalOf s (splitOf s d) t = λ d places. number-is words d t places (r .1) in
+    let at : (d : Float) (places : Request) → returned words d t places ≡ refusalOf s (splitOf s d) d t = λ d places. number-is words d t places (r .1) in
     record {
       after = a;
       eight = r .1;
@@ -125,19 +125,21 @@ hosts-building host bound lent given words t h =
       word-0 = w .bound ∙ k .bound-same;
       word-1 = w .nodes ∙ a .nodes;
       word-2 = sym (rw (w .leaves) (leaves-count s t k));
-      word-3-ends = λ e d places. at d places ∙ asks-nothing s (splitOf s d) t (a .fitting) (sym (w .asked) ∙ e);
-      word-3-asks = λ d places e. w .asked ∙ nothing-asked s (splitOf s d) t (sym (at d places) ∙ e);
+      word-3-ends = λ e d places. at d places ∙ asks-nothing s (splitOf s d) d t (a .fitting) (sym (w .asked) ∙ e);
+      word-3-asks = λ d places e. w .asked ∙ nothing-asked s (splitOf s d) d t (sym (at d places) ∙ e);
       word-4 = w .keys-length ∙ ap (λ (z : Lengths). z .keys) (k .lengths-same);
       word-5 = w .distances-length ∙ ap (λ (z : Lengths). z .distances) (k .lengths-same);
       word-6 = w .leaves-length ∙ ap (λ (z : Lengths). z .leaves) (k .lengths-same);
       word-7 = w .queue-length ∙ ap (λ (z : Lengths). z .queue) (k .lengths-same);
       never-10 = λ d places e.
-          a .never-10 d (ap (λ (o : Outcome). o .answer) (sym (call-refused s t (splitOf s d) 10 (sym e ∙ at d places) d refl (λ z. omega (arith, z)))));
+          a .never-10 d (ap (λ (o : Outcome). o .answer) (sym (call-refused s t (splitOf s d) d 10 (sym e ∙ at d places) refl (λ z. omega (arith, z)))));
+      broken-16 = λ asks d places f. at d places ∙ refusal-broken s (splitOf s d) d t (a .fitting) (λ z. asks (w .asked ∙ z)) f;
+      only-16 = λ d places e. refusal-16 s (splitOf s d) d t (sym (at d places) ∙ e);
     }
 
 pub hosts-queue-of-64 : HostsQueueOf64
-hosts-queue-of-64 host bound lent given eight low room leaves queue l =
-    let r = queue-of-64 bound lent given low room leaves queue l in
+hosts-queue-of-64 host bound lent given eight low room leaves queue l all =
+    let r = queue-of-64 bound lent given low room leaves queue l all in
     (wordsOf (r .0), r .1, reach host eight (r .2), words-told (r .0) .asked ∙ r .3)
 
 -- from what the calls on a tree answer to what they hand over

@@ -1,13 +1,15 @@
 -- What holds for a host behind the C boundary: all that the demands say of builds and of finished ones. proofs/Hosts.antt proves each of these.
 use Prim.Native.Nat.{ℕ, _+_, _≤_, _<_}
 use mathlib.Core.Path.{_≡_}
+use mathlib.Core.Bool.{false}
 use mathlib.Core.List.{List, _∷_}
 use lib.ListN.{length, getD}
 use lib.Ieee.{Float}
+use lib.Ieee.Scale.{finite}
 use Rattle.build.specs.declared.Request.{Request}
 use Rattle.build.specs.declared.State.{State}
 use Rattle.build.specs.Build.{Tables, finest, nodeRoom, lengthsOf, requestOf, refusalOf, splitOf}
-use Rattle.tree.specs.Tree.{Tree, Sound}
+use Rattle.tree.specs.Tree.{Tree, AllFinite, Sound}
 use Rattle.vertices.specs.Listing.{Lists}
 use Rattle.dual.specs.declared.Dual.{Dual}
 use Rattle.dual.specs.declared.Tried.the-variants.{Keys}
@@ -59,18 +61,21 @@ pub record AfterEveryCall (bound : ℕ) (lent : Tables) (given : List Float) (wo
   pub word-7 : word words 7 ≡ length (lent .queue)
   -- 10 is never returned, whatever distance is given next.
   pub never-10 : (d : Float) (places : Request) → returned words d t places ≡ 10 → ⊥
+  -- While a cell is asked for, 16 is returned for an infinite or NaN distance, full tables or not, and for no finite one.
+  pub broken-16 : (word words 3 ≡ 0 → ⊥) → (d : Float) (places : Request) → finite d ≡ false → returned words d t places ≡ 16
+  pub only-16 : (d : Float) (places : Request) → returned words d t places ≡ 16 → finite d ≡ false
 
 abbrev pub HostsBuilding : Type 0
 HostsBuilding =
     (host : Host) (bound : ℕ) (lent : Tables) (given : List Float) (words : List ℕ) (t : Tables)
     → HostRun host bound lent given words t → AfterEveryCall bound lent given words t
 
--- Bound 2 is finished by any 73 distances, in a queue of 64.
+-- Bound 2 is finished by any 73 finite distances, in a queue of 64.
 abbrev pub HostsQueueOf64 : Type 0
 HostsQueueOf64 =
     (host : Host) (bound : ℕ) (lent : Tables) (given : List Float) → length (host .words) ≡ 8
     → bound ≤ 2 → 73 ≤ nodeRoom (lengthsOf lent) → 64 ≤ length (lent .leaves) → 64 ≤ length (lent .queue)
-    → length given ≡ 73
+    → length given ≡ 73 → AllFinite given
     → (words : List ℕ) × (t : Tables) × HostRun host bound lent given words t × (word words 3 ≡ 0)
 
 -- What is handed over as eight keys, eight distances and the number tried.
@@ -111,7 +116,7 @@ abbrev pub DistanceReturns : Type 0
 DistanceReturns =
     (words : List ℕ) (d : Float) (t : Tables) (places : Request)
     → ((length words ≡ 8 → ⊥) → returned words d t places ≡ 10)
-    × (length words ≡ 8 → returned words d t places ≡ refusalOf (stateOf words) (splitOf (stateOf words) d) t)
+    × (length words ≡ 8 → returned words d t places ≡ refusalOf (stateOf words) (splitOf (stateOf words) d) d t)
 
 -- ---- what stands in a host's places
 
