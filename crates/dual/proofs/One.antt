@@ -6,12 +6,13 @@ use mathlib.Core.Logic.{_⊎_, inl, inr, ⊎-elim}
 use mathlib.Core.List.{List}
 use native.Mathlib.Omega.{arith}
 use lib.Ieee.{Float, nan}
+use lib.Ieee.Scale.{finite}
 use lib.ListN.{length, getD}
 use lib.Seq.{ext-getD}
 use Rattle.morton.specs.Vertex.{isInner, sideOf}
 use Rattle.morton.proofs.One.{OnlyOne, equal}
 use Rattle.tree.specs.Tree.{Tree, Sound}
-use Rattle.tree.proofs.One.{deepest-key, deepest-distance}
+use Rattle.tree.proofs.One.{deepest-key, deepest-distance, deepest-finite}
 use Rattle.dual.specs.declared.Dual.{Dual}
 use Rattle.dual.specs.declared.SlabAnswer.{SlabAnswer}
 use Rattle.dual.specs.declared.Tried.{Tried}
@@ -60,6 +61,10 @@ dual-cell-one t L v r s p q = go (r .tried) (s .tried) refl refl p q
     go (Keys n) (Refused k) e f (S, i, more, _) (_, _, w) = absurd (not-why t L v k S i more w)
     go (Refused j) (Keys n) e f (_, _, w) (S, i, more, _) = absurd (not-why t L v j S i more w)
     go (Refused j) (Refused k) e f (ks, ds, w) (ks', ds', w') = same r s (e ∙ ap Refused (why-one t L v j k w w') ∙ sym f) (ks ∙ sym ks') (ds ∙ sym ds')
+
+-- no distance is a NaN, whose bits the logic doesn't tell apart
+pub dual-finite : (t : Tree) (L v n : ℕ) (keys : List ℕ) (distances : List Float) → DualSays t L v keys distances (Keys n) → (i : ℕ) → i < 8 → finite (getD distances i nan) ≡ true
+dual-finite t L v n keys distances (S, _, _, c) i h = deepest-finite t S (c .entry i h)
 
 -- ---- dual cells of a tree that is trusted
 

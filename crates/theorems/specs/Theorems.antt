@@ -1,9 +1,10 @@
 -- What README and the header tell of builds and trees as proved, beside the one answer of each call: sentence by sentence, by name and with its statement.
 use Prim.Native.Nat.{ℕ, _+_, _*_, _-_, _^_, _≤_, _<_}
 use mathlib.Core.Path.{_≡_}
-use mathlib.Core.Bool.{true, not}
+use mathlib.Core.Bool.{true, false, not}
 use mathlib.Core.List.{List, _∷_, _++_, reverse}
 use lib.Ieee.{Float, nan}
+use lib.Ieee.Scale.{finite}
 use lib.ListN.{length, getD, take}
 use Rattle.morton.specs.Exact.{Exactly}
 use Rattle.morton.specs.Field.{coord}
@@ -11,7 +12,8 @@ use Rattle.morton.specs.Level.{deepest, level, Cell}
 use Rattle.morton.specs.Split.{splits}
 use Rattle.morton.specs.Vertex.{isInner, sideOf}
 use Rattle.tree.specs.declared.Lookup.{Lookup}
-use Rattle.tree.specs.Tree.{Tree, StandsAt, In, Ascending, Sound, Decides}
+use Rattle.tree.specs.declared.Lookup.the-variants.{Found}
+use Rattle.tree.specs.Tree.{Tree, StandsAt, In, Ascending, AllFinite, Sound, Decides}
 use Rattle.tree.specs.Climb.{LookupSays, triedIn, trustingOf}
 use Rattle.tree.proofs.Climbing as climbing
 use Rattle.tree.proofs.One as tree
@@ -72,6 +74,16 @@ module _ (bound : ℕ) (lent : Tables) (given : List Float) (s : State) (t : Tab
   -- an honest host never hears 10;
   pub never-10 : (d : Float) → distanceOf s d t .answer ≡ Refused 10 → ⊥
   never-10 = whole .never-10
+
+  -- while a cell is asked for, an infinite or NaN distance is refused with 16, and no finite one is; so every distance of a build is finite;
+  pub broken-refused : (s .asked ≡ 0 → ⊥) → (d : Float) → finite d ≡ false → distanceOf s d t .answer ≡ Refused 16
+  broken-refused = whole .broken-refused
+
+  pub only-broken : (d : Float) → distanceOf s d t .answer ≡ Refused 16 → finite d ≡ false
+  only-broken = whole .only-broken
+
+  pub finite-given : AllFinite given
+  finite-given = whole .finite-given
 
   -- a build ends;
   pub build-ends : length given ≤ nodeRoom (lengthsOf lent)
@@ -142,6 +154,13 @@ module _ (host : Host) (bound : ℕ) (lent : Tables) (given : List Float) (words
   pub word-of-the-end : getD words 3 0 ≡ 0 → (d : Float) (places : Request) → distanceEffect words d t places .said .number ≡ 9
   word-of-the-end = told .word-3-ends
 
+  -- While a cell is asked for, 16 is returned for an infinite or NaN distance, and for no finite one.
+  pub returned-16 : (getD words 3 0 ≡ 0 → ⊥) → (d : Float) (places : Request) → finite d ≡ false → distanceEffect words d t places .said .number ≡ 16
+  returned-16 = told .broken-16
+
+  pub only-16 : (d : Float) (places : Request) → distanceEffect words d t places .said .number ≡ 16 → finite d ≡ false
+  only-16 = told .only-16
+
   -- Its finished tree is sound, and is read right by its calls for the list and for dual cells.
   pub hosts-finished : getD words 3 0 ≡ 0 → Sound (treeIn words t) × Reading (finest bound) (treeIn words t) × HostsReading (finest bound) (treeIn words t)
   hosts-finished = hosts.hosts-finished host bound lent given words t run
@@ -171,10 +190,10 @@ brought-back-anywhere = hosts.brought-back-anywhere
 
 -- ---- which rooms are enough, and which never are
 
--- With room for n nodes a distance that is asked for is refused only where the tree has more than n,
+-- With room for n nodes a finite distance that is asked for is refused only where the tree has more than n,
 pub enough-room : (n bound : ℕ) (lent : Tables) (given : List Float) (s : State) (t : Tables)
     → RoomFor n lent → Run bound lent given s t → (s .asked ≡ 0 → ⊥)
-    → (d : Float) (k : ℕ) → distanceOf s d t .answer ≡ Refused k → n < nodesWith s d
+    → (d : Float) → finite d ≡ true → (k : ℕ) → distanceOf s d t .answer ≡ Refused k → n < nodesWith s d
 enough-room = rooms.enough-room
 
 -- by 7 never where n is the node room,
@@ -192,7 +211,7 @@ finishes-too = rooms.finishes
 -- A queue of 64 finishes bound 2, and a shorter one lets no build finish.
 pub queue-of-64 : (bound : ℕ) (lent : Tables) (given : List Float)
     → bound ≤ 2 → 73 ≤ nodeRoom (lengthsOf lent) → 64 ≤ length (lent .leaves) → 64 ≤ length (lent .queue)
-    → length given ≡ 73
+    → length given ≡ 73 → AllFinite given
     → (s : State) × (t : Tables) × Run bound lent given s t × (s .asked ≡ 0)
 queue-of-64 = demands.queue-of-64
 
@@ -271,6 +290,14 @@ module _ (t : Tree) (sound : Sound t) (D : ℕ) (deep : D ≤ deepest) (fine : (
         -- with its distance.
         pub dual-distance : (place : ℕ) × StandsAt (t .keys) place (getD (r .keys) i 0) × (getD (r .distances) i nan ≡ getD (t .distances) place nan)
         dual-distance = (found .entry i h .place, found .entry i h .stands, found .entry i h .its-distance)
+
+-- No lookup and no dual cell of a checked tree hands on a distance that isn't finite.
+pub found-finite : (t : Tree) (asked k n : ℕ) (d : Float) → LookupSays t asked (Found k d n) → finite d ≡ true
+found-finite = tree.found-finite
+
+pub dual-finite : (t : Tree) (L v n : ℕ) (keys : List ℕ) (distances : List Float) → DualSays t L v keys distances (tried.Keys n)
+    → (i : ℕ) → i < 8 → finite (getD distances i nan) ≡ true
+dual-finite = dual.dual-finite
 
 -- At most 21 keys are tried.
 pub tried-most : (t : Tree) (asked : ℕ) (r : Lookup) → LookupSays t asked r → triedIn r ≤ 21
