@@ -377,6 +377,21 @@ fn say_of_tree(keys: &[u64], distances: &[f32], leaves: &[u64]) {
     );
 }
 
+fn say_of_broken(keys: &[u64], leaves: &[u64]) {
+    let mut last = [1.0f32; 81];
+    last[80] = 1.0 / 0.0;
+    say(
+        b"that tree, infinity at its last node: not sound",
+        !tree::sound(keys, &last, leaves),
+    );
+    let mut first = [1.0f32; 81];
+    first[0] = 0.0 / 0.0;
+    say(
+        b"that tree, NaN at its root: not sound",
+        !tree::sound(keys, &first, leaves),
+    );
+}
+
 fn say_of_73() {
     let mut keys = [0u64; 73];
     let mut distances = [0.0f32; 73];
@@ -406,6 +421,7 @@ fn say_of_81() {
         b"that tree, one distance too many: not sound",
         !tree::sound(&keys, &[0.0f32; 82], &leaves),
     );
+    say_of_broken(&keys, &leaves);
     let least = leaves[0];
     leaves[0] = leaves[1];
     leaves[1] = least;
@@ -522,14 +538,45 @@ fn show_distances() {
         zeros(3, 9, 10),
         325,
     );
-    let no_numbers = Given {
+    let greatest = Given {
         bound: 3,
         first: 9,
         end: 10,
         fifth: false,
-        other: [1, 0, 0x80, 0x7f],
+        other: [0xff, 0xff, 0x7f, 0x7f],
     };
-    show(b"counts, byte 3, 0.0 for key 64, else NaN", no_numbers, 325);
+    show(
+        b"counts, byte 3, 0.0 for key 64, else the greatest f32",
+        greatest,
+        325,
+    );
+}
+
+// 0.0 nine times, then what the other four bytes are.
+fn then(other: [u8; 4]) -> Given {
+    Given {
+        bound: 3,
+        first: 0,
+        end: 9,
+        fifth: false,
+        other: other,
+    }
+}
+
+fn show_broken() {
+    let nan = then([1, 0, 0x80, 0x7f]);
+    show(b"counts, byte 3, 9 times 0.0, then NaN", nan, 41);
+    show(b"counts, that without its last byte", nan, 40);
+    show(
+        b"counts, byte 3, 9 times 0.0, then infinity",
+        then([0, 0, 0x80, 0x7f]),
+        41,
+    );
+    show(
+        b"counts, byte 3, 9 times 0.0, then -infinity",
+        then([0, 0, 0x80, 0xff]),
+        41,
+    );
 }
 
 fn show_rooms() {
@@ -614,5 +661,6 @@ fn main() {
     );
     show_ends();
     show_distances();
+    show_broken();
     show_rooms();
 }
