@@ -1,9 +1,15 @@
 -- Which float a bit pattern is, and which floats are finite. Assumes nothing.
-use Prim.Native.Nat.{ℕ, _%_, _^_, _≤_, _<_}
+use Prim.Native.Nat.{ℕ, _*_, _%_, _^_, _≤_, _<_}
 use mathlib.Core.Path.{_≡_, refl, sym, _∙_, subst}
-use mathlib.Core.Bool.{Bool, true, false, not, true≢false, false≢true}
-use lib.Dec.{T}
-use lib.Ieee.{Float, nan, inf, fin, binary32, div, neg, lt, ne, ofBits, toBits, isNan, nanBits}
+use mathlib.Core.Bool.{Bool, true, false, _&&_, _||_, not, Bool·beq, true≢false, false≢true}
+use native.Mathlib.Nat.{zero-mul, mul-pos, sub-self, eq-of-mul-eq-mul-right}
+use native.Mathlib.Omega.{arith}
+use lib.Dec.{T, eqb}
+use lib.IntN.{pos}
+use lib.Pow.{pow-pos}
+use lib.Ieee.{Float, nan, inf, fin, binary32, low, up, down, round, sum, add, sub, div, neg, eq, ne, ofBits, toBits, isNan, nanBits}
+use lib.Ieee.Exact.{HasValue, round-exact}
+use lib.Ieee.Fits.{down-pos}
 use lib.Ieee.Scale.{finite}
 use lib.Ieee.Bits.{nanBits-is, nanBits-above}
 use lib.Ieee.Compare.{differs-from-itself}
@@ -42,21 +48,38 @@ nan-bits = (refl, refl)
 pub unequal-nan : (x : Float) → ne x x ≡ true → PatternOf x 0x7fc0_0000
 unequal-nan x e = subst (λ (d : Float). PatternOf d 0x7fc0_0000) (sym (differs-from-itself x (subst T (sym e) tt))) nan-bits
 
--- ---- neither an infinity nor the NaN
+-- ---- what is finite: taken from itself it leaves 0, and an infinity or the NaN leaves the NaN
 
-abbrev far : Float
-far = div binary32 (ofBits binary32 0x3f80_0000) (ofBits binary32 0)
+zero-is : ofBits binary32 0 ≡ fin false 0 (pos 0)
+unfolding ofBits
+zero-is = refl
 
-pub above-low : (x : Float) → lt (neg far) x ≡ true → lt x far ≡ finite x
-unfolding div ofBits lt neg
-above-low nan e = refl
-above-low (inf true) e = absurd (false≢true e)
-above-low (inf false) e = refl
-above-low (fin s m k) e = refl
+none-left : (a b c : ℕ) → 0 < c → a * c ≡ 0 * b → a ≡ 0
+none-left a b c p h = eq-of-mul-eq-mul-right c p a 0 (h ∙ zero-mul b ∙ sym (zero-mul c))
 
-pub at-low : (x : Float) → lt (neg far) x ≡ false → lt (neg far) x ≡ finite x
-unfolding div ofBits lt neg
-at-low nan e = refl
-at-low (inf true) e = refl
-at-low (inf false) e = absurd (true≢false e)
-at-low (fin s m k) e = refl
+equals-zero : (x : Float) (c : ℕ) → 0 < c → HasValue x false 0 c → eq x (fin false 0 (pos 0)) ≡ true
+unfolding eq
+equals-zero nan c p v = absurd v
+equals-zero (inf s) c p v = absurd v
+equals-zero (fin s m e) c p (_, h) =
+    let z : m * up e ≡ 0 = none-left (m * up e) (down e) c p h in
+    rw (z, zero-mul (down e)) (go s)
+  where
+    go : (s : Bool) → (eqb 0 0 && (Bool·beq s false || eqb 0 0)) ≡ true
+    go true = refl
+    go false = refl
+
+rounds-to-zero : (c : ℕ) → 0 < c → eq (round binary32 false 0 c) (fin false 0 (pos 0)) ≡ true
+rounds-to-zero c p = equals-zero _ c p (round-exact binary32 false 0 c 0 0 p (pow-pos 24) (pow-pos 277) (zero-mul (2 ^ low binary32) ∙ sym (zero-mul c)))
+
+nothing-left : (s : Bool) (a c : ℕ) → 0 < c → eq (sum binary32 s a (not s) a c) (fin false 0 (pos 0)) ≡ true
+unfolding sum
+nothing-left true a c p = rw (le-ltb a a (omega arith), sub-self a) (rounds-to-zero c p)
+nothing-left false a c p = rw (le-ltb a a (omega arith), sub-self a) (rounds-to-zero c p)
+
+pub less-itself : (x : Float) → eq (sub binary32 x x) (ofBits binary32 0) ≡ finite x
+unfolding sub add neg eq
+less-itself nan = refl
+less-itself (inf true) = refl
+less-itself (inf false) = refl
+less-itself (fin s m e) = rw zero-is (nothing-left s (m * up e * down e) (down e * down e) (mul-pos (down-pos e) (down-pos e)))

@@ -23,10 +23,9 @@ pub fn to_bits(d: f32) -> u32
     f32::to_bits(d)
 }
 
-// Whether a float is neither an infinity nor the NaN.
+// Whether a float is neither an infinity nor the NaN: each of these less itself is the NaN.
 pub fn is_finite(d: f32) -> bool
     ensures { λ r. ⌜ r ≡ finite d ⌝ }
 {
-    let far = 1.0 / 0.0;
-    -far < d && d < far
+    d - d == 0.0
 }
