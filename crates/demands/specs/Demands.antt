@@ -22,14 +22,14 @@ pub record AfterEveryDistance (bound : ℕ) (lent : Tables) (given : List Float)
   -- The state fits its tables: refusal 10 never comes, whatever distance is given next.
   pub fitting : fits s t ≡ true
   pub never-10 : (d : Float) → distanceOf s d t .answer ≡ Refused 10 → ⊥
-  -- While a cell is asked for, an infinite or NaN distance is refused with 16, full tables or not, and no finite one is.
+  -- While a cell is asked for, an infinite or NaN distance is refused with 16, full tables or not, and no finite one is. So every distance of a build is
+  -- finite.
   pub broken-refused : (s .asked ≡ 0 → ⊥) → (d : Float) → finite d ≡ false → distanceOf s d t .answer ≡ Refused 16
   pub only-broken : (d : Float) → distanceOf s d t .answer ≡ Refused 16 → finite d ≡ false
+  pub finite-given : AllFinite given
   -- There is a node for each distance, in the order given; node and leaf keys are strictly ascending.
   pub nodes : s .nodes ≡ length given
   pub distances : take (s .nodes) (t .distances) ≡ reverse given
-  -- Every distance of a build is finite: any other is refused.
-  pub finite-given : AllFinite given
   pub nodes-ascend : Ascending (nodeKeys s t)
   pub leaves-ascend : Ascending (leafKeys s t)
   -- The node at a place is a leaf exactly if document 01's rule doesn't split it for the distance there; there are no other leaves.
