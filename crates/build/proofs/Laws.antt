@@ -224,14 +224,14 @@ ready s split d t h =
 
 -- ---- a call, by the number that it found
 
-module _ (s : State) (t : Tables) (split : Bool) (d : Float) (k : ℕ) (e : k ≡ refusalOf s split d t) where
-  pub call-ready : k ≡ 0 → Ready s split t
-  call-ready z = ready s split d t (sym e ∙ z)
-
-  pub call-refused : split ≡ splitOf s d → (k ≡ 0 → ⊥) → outcome (Refused k) t ≡ distanceOf s d t
+module _ (s : State) (t : Tables) (d : Float) (k : ℕ) (e : k ≡ refusalOf s (splitOf s d) d t) where
+  pub call-refused : (k ≡ 0 → ⊥) → outcome (Refused k) t ≡ distanceOf s d t
   unfolding distanceOf
-  call-refused f n = rw (← f) (refused s split d t k e n)
+  call-refused n = refused s (splitOf s d) d t k e n
 
-  pub call-accepted : split ≡ splitOf s d → k ≡ 0 → (o : Outcome) → o ≡ acceptOf s split d t → o ≡ distanceOf s d t
+  pub call-ready : (split : Bool) → split ≡ splitOf s d → k ≡ 0 → Ready s split t
+  call-ready split f z = rw f (ready s (splitOf s d) d t (sym e ∙ z))
+
+  pub call-accepted : (split : Bool) → split ≡ splitOf s d → k ≡ 0 → (o : Outcome) → o ≡ acceptOf s split d t → o ≡ distanceOf s d t
   unfolding distanceOf
-  call-accepted f z o a = rw (← f) (a ∙ accepted s split d t (sym e ∙ z))
+  call-accepted split f z o a = rw f at a ∙ accepted s (splitOf s d) d t (sym e ∙ z)

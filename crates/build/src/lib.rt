@@ -243,18 +243,10 @@ fn full(s: State, split: bool) -> u32
     0
 }
 
-// The number given for no, or 0.
-fn refusal_at(
-    s: State,
-    z: Lengths,
-    next: u64,
-    split: bool,
-    distance: f32,
-    room: usize,
-    top: u32,
-) -> u32
+// The number given for no, or 0. Whether the cell is split is found last: after the other tests the compiler knows its level.
+fn refusal_at(s: State, z: Lengths, next: u64, distance: f32, room: usize, top: u32) -> u32
     requires { ⌜ room ≤ 4096 ⌝ }
-    ensures { λ r. ⌜ r ≡ refusalAt s z next split distance room top ⌝ }
+    ensures { λ r. ⌜ r ≡ refusalAt s z next (splitOf s distance) distance room top ⌝ }
 {
     if !fits_at(s, z, next, room, top) {
         return 10;
@@ -268,6 +260,7 @@ fn refusal_at(
     if s.nodes == room {
         return 6;
     }
+    let split = is_split(s, distance);
     full(s, split)
 }
 
@@ -284,20 +277,19 @@ fn lengths_of(keys: &[u64], distances: &[f32], leaves: &[u64], queue: &[u64]) ->
 
 fn refusal_of(
     s: State,
-    split: bool,
     distance: f32,
     keys: &[u64],
     distances: &[f32],
     leaves: &[u64],
     queue: &[u64],
 ) -> u32
-    ensures { λ r. ⌜ r ≡ refusalOf s split distance (tablesOf (now (keys .entry)) (now (distances .entry)) (now (leaves .entry)) (now (queue .entry))) ⌝ }
+    ensures { λ r. ⌜ r ≡ refusalOf s (splitOf s distance) distance (tablesOf (now (keys .entry)) (now (distances .entry)) (now (leaves .entry)) (now (queue .entry))) ⌝ }
 {
     let z = lengths_of(keys, distances, leaves, queue);
     let next = item_at(queue, s.nodes);
     let room = node_room(z);
     let top = finest_level(s.bound);
-    refusal_at(s, z, next, split, distance, room, top)
+    refusal_at(s, z, next, distance, room, top)
 }
 
 // Begins a build over tables of these lengths: the root is asked for first.
@@ -426,10 +418,10 @@ pub fn distance(
         outcome r (tablesOf (now (keys .exit)) (now (distances .exit)) (now (leaves .exit)) (now (queue .exit)))
         ≡ distanceOf s distance (tablesOf (now (keys .entry)) (now (distances .entry)) (now (leaves .entry)) (now (queue .entry))) ⌝ }
 {
-    let split = is_split(s, distance);
-    let number = refusal_of(s, split, distance, keys, distances, leaves, queue);
+    let number = refusal_of(s, distance, keys, distances, leaves, queue);
     if number != 0 {
         return Answer::Refused(number);
     }
+    let split = is_split(s, distance);
     accept(s, keys, distances, leaves, queue, distance, split)
 }

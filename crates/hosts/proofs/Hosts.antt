@@ -132,7 +132,7 @@ hosts-building host bound lent given words t h =
       word-6 = w .leaves-length ∙ ap (λ (z : Lengths). z .leaves) (k .lengths-same);
       word-7 = w .queue-length ∙ ap (λ (z : Lengths). z .queue) (k .lengths-same);
       never-10 = λ d places e.
-          a .never-10 d (ap (λ (o : Outcome). o .answer) (sym (call-refused s t (splitOf s d) d 10 (sym e ∙ at d places) refl (λ z. omega (arith, z)))));
+          a .never-10 d (ap (λ (o : Outcome). o .answer) (sym (call-refused s t d 10 (sym e ∙ at d places) (λ z. omega (arith, z)))));
       broken-16 = λ asks d places f. at d places ∙ refusal-broken s (splitOf s d) d t (a .fitting) (λ z. asks (w .asked ∙ z)) f;
       only-16 = λ d places e. refusal-16 s (splitOf s d) d t (sym (at d places) ∙ e);
     }

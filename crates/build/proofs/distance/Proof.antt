@@ -4,9 +4,6 @@ use borrow.Author.Needs.{needs}
 use Rattle.build.proofs.distance.Statement.{statement}
 use Rattle.build.proofs.distance.Tie as tie
 
-is-split-requires : tie.Need-is-split-requires
-is-split-requires c κs = search needs
-
 refusal-of-requires : tie.Need-refusal-of-requires
 refusal-of-requires c κs = search needs
 
@@ -23,10 +20,13 @@ same-length-4 : tie.Need-same-length-4
 same-length-4 c = search needs
 
 returns : tie.Need-returns
-returns c = call-refused _ _ _ _ _ (c .before .refusal-of .ensures) (c .before .before .before .before .before .before .is-split .ensures) (c .if1 .taken)
+returns c = call-refused _ _ _ _ (c .before .refusal-of .ensures) (c .if1 .taken)
+
+is-split-requires : tie.Need-is-split-requires
+is-split-requires c κs = search needs
 
 accept-requires : tie.Need-accept-requires
-accept-requires c κs = call-ready _ _ _ _ _ (c .before .before .before .before .before .refusal-of .ensures) (c .before .before .before .before .if1 .left)
+accept-requires c κs = call-ready _ _ _ _ (c .before .before .before .before .before .before .refusal-of .ensures) _ (c .before .before .before .before .is-split .ensures) (c .before .before .before .before .before .if1 .left)
 
 same-length-5 : tie.Need-same-length-5
 same-length-5 c = search needs
@@ -41,19 +41,19 @@ same-length-8 : tie.Need-same-length-8
 same-length-8 c = search needs
 
 returns-2 : tie.Need-returns-2
-returns-2 c = call-accepted _ _ _ _ _ (c .before .before .before .before .before .before .before .before .before .before .before .before .before .before .refusal-of .ensures) (c .before .before .before .before .before .before .before .before .before .before .before .before .before .before .before .before .before .before .before .is-split .ensures) (c .before .before .before .before .before .before .before .before .before .before .before .before .before .if1 .left) _ (c .before .before .before .before .before .before .before .before .accept .ensures)
+returns-2 c = call-accepted _ _ _ _ (c .before .before .before .before .before .before .before .before .before .before .before .before .before .before .before .refusal-of .ensures) _ (c .before .before .before .before .before .before .before .before .before .before .before .before .before .is-split .ensures) (c .before .before .before .before .before .before .before .before .before .before .before .before .before .before .if1 .left) _ (c .before .before .before .before .before .before .before .before .accept .ensures)
 
 pub distance-spec : {M : Type 1} → statement M
 distance-spec =
     tie.close
     (tie.spec
-    is-split-requires
     refusal-of-requires
     same-length
     same-length-2
     same-length-3
     same-length-4
     returns
+    is-split-requires
     accept-requires
     same-length-5
     same-length-6

@@ -1,9 +1,11 @@
 -- `refusal_at` meets its contract, test by test. Assumes nothing.
 use Rattle.build.proofs.Walk.{via-not-false, called}
 use Rattle.build.proofs.Laws.{asked}
+use mathlib.Core.Path.{ap, _∙_}
 use native.Mathlib.Omega.{arith}
-use Rattle.build.specs.Build.{refusalAt}
+use Rattle.build.specs.Build.{fullOf, refusalAt}
 use borrow.Author.Needs.{needs}
+use borrow.Author.Tests.{ne-eqb}
 use Rattle.build.proofs.refusal_at.Statement.{statement}
 use Rattle.build.proofs.refusal_at.Tie as tie
 
@@ -29,14 +31,23 @@ returns-4 : tie.Need-returns-4
 unfolding refusalAt
 returns-4 c = search called
 
+is-split-requires : tie.Need-is-split-requires
+is-split-requires c κs = search needs
+
 full-requires : tie.Need-full-requires
 full-requires c κs =
-    let k = asked _ _ _ _ _ (c .before .before .before .before .if2 .left) (via-not-false _ _ (c .before .before .before .before .before .before .before .fits-at .ensures) (c .before .before .before .before .before .before .if1 .left)) in
+    let k = asked _ _ _ _ _ (c .before .before .before .before .before .if2 .left) (via-not-false _ _ (c .before .before .before .before .before .before .before .before .fits-at .ensures) (c .before .before .before .before .before .before .before .if1 .left)) in
     omega (arith, k .waiting, k .counted .room)
 
 returns-5 : tie.Need-returns-5
 unfolding refusalAt
-returns-5 c = search called depth 8
+returns-5 c =
+    rw (
+      via-not-false _ _ (c .before .before .before .before .before .before .before .before .before .fits-at .ensures) (c .before .before .before .before .before .before .before .before .if1 .left),
+      ne-eqb _ _ (c .before .before .before .before .before .before .if2 .left),
+      via-not-false _ _ (c .before .before .before .before .before .is-finite .ensures) (c .before .before .before .before .if3 .left),
+      ne-eqb _ _ (c .before .before .if4 .left),
+    ) (c .full .ensures ∙ ap (fullOf _) (c .before .is-split .ensures))
 
 pub refusal-at-spec : {M : Type 1} → statement M
 refusal-at-spec =
@@ -48,5 +59,6 @@ refusal-at-spec =
     is-finite-requires
     returns-3
     returns-4
+    is-split-requires
     full-requires
     returns-5)
