@@ -10,7 +10,7 @@ use lib.ListN.{length, getD, take, List·getD-append, length-reverse}
 use lib.Seq.{getD-append-seam}
 use lib.Ieee.{Float}
 use lib.Ieee.Scale.{finite}
-use borrow.Author.Tests.{eqb-false, ne-eqb, lt-ltb, le-ltb}
+use borrow.Author.Tests.{eqb-false, ne-eqb, le-ltb}
 use Rattle.morton.specs.Level.{level}
 use Rattle.morton.specs.Split.{splits}
 use Rattle.morton.proofs.Levels.{cell-level}
