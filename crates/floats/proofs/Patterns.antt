@@ -50,7 +50,7 @@ unequal-nan x e = subst (λ (d : Float). PatternOf d 0x7fc0_0000) (sym (differs-
 
 -- ---- what is finite: taken from itself it leaves 0, and an infinity or the NaN leaves the NaN
 
-zero-is : ofBits binary32 0 ≡ fin false 0 (pos 0)
+pub zero-is : ofBits binary32 0 ≡ fin false 0 (pos 0)
 unfolding ofBits
 zero-is = refl
 
