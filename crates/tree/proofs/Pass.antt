@@ -12,9 +12,8 @@ use lib.ListN.{length, getD}
 use Rattle.morton.specs.Level.{limit, Cell, level, parentOf}
 use Rattle.morton.proofs.Levels.{eight-pos, eight-mono, cell-level, cell-lt}
 use Rattle.morton.proofs.Cells.{child-cell}
-use Rattle.tree.specs.Tree.{treeOf, StandsAt, In, AllChildren, NoChild, AllFinite, Sound, Decides, EightAt}
-use Rattle.tree.proofs.Lists.{in-at}
-use Rattle.tree.proofs.Halving.{order}
+use Rattle.tree.specs.Tree.{treeOf, StandsAt, In, AllChildren, NoChild, FirstChild, AllFinite, Sound, Decides, EightAt}
+use Rattle.tree.proofs.Lists.{order, in-at, ascending-place}
 
 -- ---- answers
 
@@ -97,7 +96,7 @@ eighth {k} q n = go (level k) refl
 -- ---- the pass
 
 -- What the pass has shown when node i is next, the next child is expected at c and the next leaf at m.
-pub record Walked (ks ls : List ℕ) (i c m : ℕ) : Type 0 where
+pub record Walked (ks ls fs : List ℕ) (i c m : ℕ) : Type 0 where
   pub some : 1 ≤ c
   pub behind : i ≤ c
   pub inside : c ≤ length ks
@@ -111,9 +110,10 @@ pub record Walked (ks ls : List ℕ) (i c m : ℕ) : Type 0 where
   pub leaf : (q : ℕ) → q < m → Before (getD ls q 0) ks i
   pub leaf-up : Up ls m
   pub apart : (q j : ℕ) → q < m → 0 < j → j < c → getD ls q 0 ≡ getD ks j 0 / 8 → ⊥
+  pub told : (p : ℕ) → p < i → (getD fs p 0 < c × (getD ks (getD fs p 0) 0 ≡ 8 * getD ks p 0)) ⊎ (Before (getD ks p 0) ls m × (getD fs p 0 ≡ 0))
 
 -- A sound tree is never refused.
-module _ {ks ls : List ℕ} {d : List Float} {i c m : ℕ} (W : Walked ks ls i c m) (S : Sound (treeOf ks d ls)) where
+module _ {ks ls fs : List ℕ} {d : List Float} {i c m : ℕ} (W : Walked ks ls fs i c m) (S : Sound (treeOf ks d fs ls)) where
   -- the parent of the key at a later place than the first
   parent-at : (j : ℕ) → 0 < j → j < length ks → In (getD ks j 0 / 8) ks
   parent-at j p h =
@@ -212,9 +212,23 @@ module _ {ks ls : List ℕ} {d : List Float} {i c m : ℕ} (W : Walked ks ls i c
       let p = S .leaves-childless (getD ls m 0) (record { place = m; inside = h; here = refl }) .0 in
       omega (arith, next-leaf h p, p .inside)
 
+module _ {ks ls fs : List ℕ} {d : List Float} {i c m : ℕ} (W : Walked ks ls fs i c m) (S : Sound (treeOf ks d fs ls)) (l : i < c) where
+  -- the place of a split node's first child is c, that of a leaf's is 0
+  pub first-here : StandsAt ks c (8 * getD ks i 0) → getD fs i 0 ≡ c
+  first-here s = ⊎-elim
+      (λ t. ascending-place ks (S .ascending) (getD fs i 0) c (t .inside) (s .inside) (omega (arith, t .here, s .here)))
+      (λ n. absurd (n .0 0 (omega arith) (record { place = c; inside = s .inside; here = omega (arith, s .here) })))
+      (S .first-child i (omega (arith, W .inside)))
+
+  pub first-none : (StandsAt ks c (8 * getD ks i 0) → ⊥) → getD fs i 0 ≡ 0
+  first-none not = ⊎-elim
+      (λ t. absurd (not (child-next W S l (record { place = getD fs i 0; inside = t .inside; here = omega (arith, t .here) }))))
+      (λ n. n .1)
+      (S .first-child i (omega (arith, W .inside)))
+
 -- The pass begins, goes on over a split node or a leaf, and ends.
-pub start : (ks ls : List ℕ) → StandsAt ks 0 1 → Walked ks ls 0 1 0
-start ks ls s = record {
+pub start : (ks ls fs : List ℕ) → StandsAt ks 0 1 → Walked ks ls fs 0 1 0
+start ks ls fs s = record {
   some = omega arith;
   behind = omega arith;
   inside = s .inside;
@@ -229,9 +243,10 @@ start ks ls s = record {
   leaf = λ q l. absurd (omega arith);
   leaf-up = λ a b l k. absurd (omega arith);
   apart = λ q j l. absurd (omega arith);
+  told = λ p l. absurd (omega arith);
 }
 
-module _ {ks ls : List ℕ} {i c m : ℕ} (W : Walked ks ls i c m) (l : i < c) where
+module _ {ks ls fs : List ℕ} {i c m : ℕ} (W : Walked ks ls fs i c m) (l : i < c) where
   -- every key before c is below the children of the key at i
   low : (a : ℕ) → a < c → getD ks a 0 < 8 * getD ks i 0
   low a h = ⊎-elim
@@ -245,8 +260,8 @@ module _ {ks ls : List ℕ} {i c m : ℕ} (W : Walked ks ls i c m) (l : i < c) w
     child : (j : ℕ) → c ≤ j → j < c + 8 → getD ks j 0 ≡ 8 * getD ks i 0 + (j - c)
     child j g h = let e : c + (j - c) ≡ j = omega arith in omega (arith, E .run (j - c) (omega arith), ap (λ (x : ℕ). getD ks x 0) e)
 
-    pub after-split : Walked ks ls (i + 1) (c + 8) m
-    after-split = record {
+    pub after-split : getD fs i 0 ≡ c → Walked ks ls fs (i + 1) (c + 8) m
+    after-split right = record {
       some = omega arith;
       behind = omega arith;
       inside = E .room;
@@ -279,10 +294,16 @@ module _ {ks ls : List ℕ} {i c m : ℕ} (W : Walked ks ls i c m) (l : i < c) w
           (λ jc. W .apart q j h p jc e)
           (λ cj. let b = W .leaf q h in omega (arith, child j cj g, b .here, W .up (b .place) i (b .inside) l))
           (order j c);
+      told = λ p h. ⊎-elim
+          (λ pi. ⊎-elim (λ a. inl (omega (arith, a .0), a .1)) (λ b. inr b) (W .told p pi))
+          (λ ip. let e : i ≡ p = omega arith in
+          subst (λ (j : ℕ). (getD fs j 0 < c + 8 × (getD ks (getD fs j 0) 0 ≡ 8 * getD ks j 0)) ⊎ (Before (getD ks j 0) ls m × (getD fs j 0 ≡ 0))) e
+          (inl (omega (arith, right), ap (λ (x : ℕ). getD ks x 0) right ∙ omega (arith, child c (omega arith) (omega arith)))))
+          (order p i);
     }
 
-  pub after-leaf : StandsAt ls m (getD ks i 0) → Walked ks ls (i + 1) c (m + 1)
-  after-leaf s = record {
+  pub after-leaf : StandsAt ls m (getD ks i 0) → getD fs i 0 ≡ 0 → Walked ks ls fs (i + 1) c (m + 1)
+  after-leaf s none = record {
     some = W .some;
     behind = omega arith;
     inside = W .inside;
@@ -314,10 +335,16 @@ module _ {ks ls : List ℕ} {i c m : ℕ} (W : Walked ks ls i c m) (l : i < c) w
         let b = W .parent j p g in
         omega (arith, s .here, ap (λ (x : ℕ). getD ls x 0) f, b .here, W .up (b .place) i (b .inside) l))
         (order q m);
+    told = λ p h. ⊎-elim
+        (λ pi. ⊎-elim (λ a. inl a) (λ b. inr (widen (b .0) (omega arith), b .1)) (W .told p pi))
+        (λ ip. let e : i ≡ p = omega arith in
+        subst (λ (j : ℕ). (getD fs j 0 < c × (getD ks (getD fs j 0) 0 ≡ 8 * getD ks j 0)) ⊎ (Before (getD ks j 0) ls (m + 1) × (getD fs j 0 ≡ 0))) e
+        (inr (record { place = m; inside = omega arith; here = s .here }, none)))
+        (order p i);
   }
 
 -- what the pass has shown once every node and leaf is passed is that the tree is sound
-module _ {ks ls : List ℕ} (W : Walked ks ls (length ks) (length ks) (length ls)) where
+module _ {ks ls fs : List ℕ} (W : Walked ks ls fs (length ks) (length ks) (length ls)) where
   -- what is there has been passed
   cell-of : (k : ℕ) → In k ks → TreeCell k
   cell-of k b = subst TreeCell (b .here) (W .cells (b .place) (b .inside))
@@ -344,8 +371,14 @@ module _ {ks ls : List ℕ} (W : Walked ks ls (length ks) (length ks) (length ls
   leaf-or-all k b = subst (λ (x : ℕ). In x ls ⊎ AllChildren x ks) (b .here)
       (⊎-elim (λ q. inl (before-in (omega arith) q)) (λ a. inr (λ w g. before-in (omega arith) (a w g))) (W .done (b .place) (b .inside)))
 
-  all-passed : {d : List Float} → length ks ≡ length d → AllFinite d → Sound (treeOf ks d ls)
-  all-passed e f = record {
+  right-place : (i : ℕ) → i < length ks → FirstChild ks (getD ks i 0) (getD fs i 0)
+  right-place i h = ⊎-elim
+      (λ a. inl (record { inside = a .0; here = a .1 }))
+      (λ b. inr (childless (getD ks i 0) (in-at ks i h) (before-in (omega arith) (b .0)), b .1))
+      (W .told i h)
+
+  all-passed : {d : List Float} → length ks ≡ length d → AllFinite d → length ks ≡ length fs → Sound (treeOf ks d fs ls)
+  all-passed e f g = record {
     as-many = e;
     all-finite = f;
     ascending = W .up;
@@ -356,6 +389,8 @@ module _ {ks ls : List ℕ} (W : Walked ks ls (length ks) (length ks) (length ls
     leaves-ascending = W .leaf-up;
     leaves-childless = λ k q. (leaf-in k q, childless k (leaf-in k q) q);
     childless-leaves = λ k b none. ⊎-elim (λ q. q) (λ a. absurd (none 0 (omega arith) (a 0 (omega arith)))) (leaf-or-all k b);
+    as-many-firsts = g;
+    first-child = right-place;
   }
 
 -- ---- distances
@@ -369,17 +404,17 @@ finite-more ds i f e j h = ⊎-elim (λ lt. f j lt) (λ ge. let q : i ≡ j = om
 
 -- ---- all that the pass has shown
 
-pub record Seen (ks ls : List ℕ) (ds : List Float) (i c m : ℕ) : Type 0 where
-  pub walked : Walked ks ls i c m
+pub record Seen (ks ls fs : List ℕ) (ds : List Float) (i c m : ℕ) : Type 0 where
+  pub walked : Walked ks ls fs i c m
   pub finite-so-far : FiniteTo ds i
 
-pub seen-none : (ks ls : List ℕ) (ds : List Float) → StandsAt ks 0 1 → Seen ks ls ds 0 1 0
-seen-none ks ls ds s = record { walked = start ks ls s; finite-so-far = λ j h. absurd (omega arith) }
+pub seen-none : (ks ls fs : List ℕ) (ds : List Float) → StandsAt ks 0 1 → Seen ks ls fs ds 0 1 0
+seen-none ks ls fs ds s = record { walked = start ks ls fs s; finite-so-far = λ j h. absurd (omega arith) }
 
-pub seen-more : {ks ls : List ℕ} {ds : List Float} {i c m c′ m′ : ℕ} → Seen ks ls ds i c m → finite (getD ds i nan) ≡ true → Walked ks ls (i + 1) c′ m′ → Seen ks ls ds (i + 1) c′ m′
-seen-more {ks} {ls} {ds} {i} S e W = record { walked = W; finite-so-far = finite-more ds i (S .finite-so-far) e }
+pub seen-more : {ks ls fs : List ℕ} {ds : List Float} {i c m c′ m′ : ℕ} → Seen ks ls fs ds i c m → finite (getD ds i nan) ≡ true → Walked ks ls fs (i + 1) c′ m′ → Seen ks ls fs ds (i + 1) c′ m′
+seen-more {ks} {ls} {fs} {ds} {i} S e W = record { walked = W; finite-so-far = finite-more ds i (S .finite-so-far) e }
 
-pub accepted : {ks ls : List ℕ} {ds : List Float} {i c m : ℕ} → Seen ks ls ds i c m → c ≤ i → c ≡ length ks → m ≡ length ls → length ks ≡ length ds → Sound (treeOf ks ds ls)
-accepted {ks} {ls} {ds} {i} {c} {m} S h e f g =
+pub accepted : {ks ls fs : List ℕ} {ds : List Float} {i c m : ℕ} → Seen ks ls fs ds i c m → c ≤ i → c ≡ length ks → m ≡ length ls → length ks ≡ length ds → length ks ≡ length fs → Sound (treeOf ks ds fs ls)
+accepted {ks} {ls} {fs} {ds} {i} {c} {m} S h e f g o =
     let k : i ≡ length ks = omega (arith, S .walked .behind) in
-    all-passed (subst₃ (λ (x y z : ℕ). Walked ks ls x y z) k e f (S .walked)) g (λ j l. S .finite-so-far j (omega arith))
+    all-passed (subst₃ (λ (x y z : ℕ). Walked ks ls fs x y z) k e f (S .walked)) g (λ j l. S .finite-so-far j (omega arith)) o

@@ -9,14 +9,15 @@ use lib.Ieee.Scale.{finite}
 use lib.ListN.{length, getD}
 use Rattle.morton.specs.Level.{limit, Cell, level, parentOf}
 
--- Node keys, node distances, leaf keys.
+-- Node keys, node distances, for each node the place of its first child, and leaf keys.
 pub record Tree : Type 0 where
   pub keys : List ℕ
   pub distances : List Float
+  pub firsts : List ℕ
   pub leaves : List ℕ
 
-abbrev pub treeOf : List ℕ → List Float → List ℕ → Tree
-treeOf keys distances leaves = record { keys = keys; distances = distances; leaves = leaves }
+abbrev pub treeOf : List ℕ → List Float → List ℕ → List ℕ → Tree
+treeOf keys distances firsts leaves = record { keys = keys; distances = distances; firsts = firsts; leaves = leaves }
 
 -- k stands at a place of a list.
 pub record StandsAt (ks : List ℕ) (place k : ℕ) : Type 0 where
@@ -44,6 +45,10 @@ NoChild k ks = (w : ℕ) → w < 8 → In (8 * k + w) ks → ⊥
 abbrev pub AllFinite : List Float → Type 0
 AllFinite ds = (i : ℕ) → i < length ds → finite (getD ds i nan) ≡ true
 
+-- The place of the first of a node's eight children, or 0 for a leaf.
+abbrev pub FirstChild : List ℕ → ℕ → ℕ → Type 0
+FirstChild ks k place = StandsAt ks place (8 * k) ⊎ (NoChild k ks × (place ≡ 0))
+
 pub record Sound (t : Tree) : Type 0 where
   -- As many keys as distances.
   pub as-many : length (t .keys) ≡ length (t .distances)
@@ -61,6 +66,9 @@ pub record Sound (t : Tree) : Type 0 where
   pub leaves-ascending : Ascending (t .leaves)
   pub leaves-childless : (k : ℕ) → In k (t .leaves) → In k (t .keys) × NoChild k (t .keys)
   pub childless-leaves : (k : ℕ) → In k (t .keys) → NoChild k (t .keys) → In k (t .leaves)
+  -- The right place at each node.
+  pub as-many-firsts : length (t .keys) ≡ length (t .firsts)
+  pub first-child : (i : ℕ) → i < length (t .keys) → FirstChild (t .keys) (getD (t .keys) i 0) (getD (t .firsts) i 0)
 
 -- The answer is true exactly if P holds.
 abbrev pub Decides : Bool → Type 0 → Type 0

@@ -17,10 +17,14 @@ use Rattle.morton.proofs.Cells.{child-cell}
 use Rattle.morton.proofs.Levels.{and-true, cell-lt, eight-pos, eight-mono}
 use Rattle.morton.proofs.Vertices.{up-pow, down-cell}
 use Rattle.tree.specs.Tree.{Decides}
-use Rattle.vertices.specs.Walk.{childSplit, splitAt, entry, some, all, Spot, inTurn, lowCorner, divided, meets, ending, walked, verticesOf, levelsOf}
-use Rattle.vertices.specs.Block.{marked, Here, Small, Low, BelowMarks, Gaps, lowered, loweredMark, Lowered, LoweredMarks, Touched, PutSays, Laid}
-use Rattle.vertices.proofs.Offsets.{kept-lt, flip-lt}
-use Rattle.vertices.proofs.Entries.{same, entry-lt, from, entry-step, split-step, node-up, node-down, fine-up, fine-down}
+use Rattle.vertices.specs.Walk.{splitAt, near, inCube, entry, placeAt, some, all, Spot, inTurn, lowCorner, divided, meets, ending, walked, verticesOf, levelsOf}
+use Rattle.vertices.specs.Block.{marked, Here, Small, BelowMarks, Near, loweredMark, loweredPlace, loweredAt, LoweredMarks, LoweredGaps, LoweredAt, Touched, Laid}
+use Rattle.tree.specs.Down.{Nodes, firstAt, steps, reach, isSplit}
+use Rattle.tree.proofs.Down.{steps-in, split-steps, over-split, place-split}
+use Rattle.morton.specs.Field.{sub}
+use Rattle.morton.proofs.Sides.{sub-key}
+use Rattle.vertices.proofs.Offsets.{Within, kept-lt, flip-lt, near-cell, in-cube}
+use Rattle.vertices.proofs.Entries.{entry-in, entry-out, entry-lt, place-in, place-most, split-low, split-over, from, fromPlace, entry-step, place-step, split-step, node-up, node-down, fine-up, fine-down}
 use Rattle.vertices.proofs.Marks.{marked-zero, some-marked}
 
 -- ---- some and all
@@ -68,15 +72,6 @@ all-is f (suc n) e i h =
 
 -- ---- the entries of a child's block, as the code has them
 
-module _ (b : List ℕ) (mask q o : ℕ) where
-  pub lowered-yes : marked mask (bitAnd o (7 - q)) ≡ true → lowered b mask q o ≡ 8 * getD b (bitAnd o (7 - q)) 0 + bitXor q o
-  unfolding lowered
-  lowered-yes e = ap (λ (r : Bool). if₀ r (8 * getD b (bitAnd o (7 - q)) 0 + bitXor q o) (getD b (bitAnd o (7 - q)) 0)) e
-
-  pub lowered-no : marked mask (bitAnd o (7 - q)) ≡ false → lowered b mask q o ≡ getD b (bitAnd o (7 - q)) 0
-  unfolding lowered
-  lowered-no e = ap (λ (r : Bool). if₀ r (8 * getD b (bitAnd o (7 - q)) 0 + bitXor q o) (getD b (bitAnd o (7 - q)) 0)) e
-
 module _ (mask below q o : ℕ) where
   pub mark-yes : marked mask (bitAnd o (7 - q)) ≡ true → loweredMark mask below q o ≡ marked below (8 * bitAnd o (7 - q) + bitXor q o)
   unfolding loweredMark
@@ -112,7 +107,7 @@ shift-cell l c h cell =
 
 -- ---- the walk, by whether a cell is divided
 
-module _ (ks : List ℕ) (l c : ℕ) where
+module _ (ks : Nodes) (l c : ℕ) where
   pub walked-end : (f : ℕ) → divided ks l c ≡ false → walked f ks l c ≡ ending ks l c
   unfolding walked
   walked-end zero e = ap (λ (r : Bool). cond r [] (ending ks l c)) e
@@ -136,7 +131,7 @@ module _ (ks : List ℕ) (l c : ℕ) where
 
 -- ---- how many there are at most
 
-module _ (ks : List ℕ) where
+module _ (ks : Nodes) where
   ending-most : (l c : ℕ) → length (ending ks l c) ≤ 1
   ending-most l c = go (meets ks l c) refl
     where
@@ -164,14 +159,60 @@ module _ (ks : List ℕ) where
       go true e h = omega (arith, ap length (walked-on ks l c f e), pow-suc 8 f)
       go false e h = omega (arith, ap length (walked-end ks l c (suc f) e), ending-most l c, eight-pos f, pow-suc 8 f)
 
+-- a step from a split entry ends inside
+split-inside : (ks : Nodes) (l c o : ℕ) → splitAt ks l (entry ks l c o) ≡ true → firstAt ks (placeAt ks l c o) ≤ length (ks .keys)
+split-inside ks l c o e = go (inCube l c o) refl
+  where
+    go : (r : Bool) → inCube l c o ≡ r → firstAt ks (placeAt ks l c o) ≤ length (ks .keys)
+    go true i =
+        let s : isSplit ks l (near l c o) ≡ true = sym (split-over ks l (near l c o) (near-cell l c o)) ∙ ap (splitAt ks l) (sym (entry-in ks l c o i)) ∙ e in
+        omega (
+          arith,
+          ap (firstAt ks) (place-in ks l c o i ∙ place-split ks l (near l c o) s),
+          steps-in ks (reach ks l (near l c o)) (near l c o) (split-steps ks l (near l c o) s) .1,
+        )
+    go false i = absurd (true≢false (sym e ∙ split-low ks l (entry ks l c o) (omega (arith, entry-out ks l c o i, eight-pos l))))
+
+-- a split entry is the cell that lies that way
+side-entry : (ks : Nodes) (l c o : ℕ) → l ≤ limit → Cell l c → o < 8 → splitAt ks l (entry ks l c o) ≡ true → sub c o ≡ entry ks l c o
+unfolding near Within
+side-entry ks l c o hl cc ho e = go (inCube l c o) refl
+  where
+    go : (r : Bool) → inCube l c o ≡ r → sub c o ≡ entry ks l c o
+    go true i =
+        let s : isSplit ks l (near l c o) ≡ true = sym (split-over ks l (near l c o) (near-cell l c o)) ∙ ap (splitAt ks l) (sym (entry-in ks l c o i)) ∙ e in
+        sub-key l c o (omega arith) cc (omega arith) (in-cube l c o i) ∙ sym (entry-in ks l c o i ∙ over-split ks l (near l c o) s)
+    go false i = absurd (true≢false (sym e ∙ split-low ks l (entry ks l c o) (omega (arith, entry-out ks l c o i, eight-pos l))))
+
+zero-as : (m n : ℕ) → (0 < m → 0 < n) → (0 < n → 0 < m) → eqb m 0 ≡ eqb n 0
+zero-as zero zero f g = refl
+zero-as zero (suc n) f g = absurd (omega (arith, g (omega arith)))
+zero-as (suc m) zero f g = absurd (omega (arith, f (omega arith)))
+zero-as (suc m) (suc n) f g = ne-eqb (suc m) 0 (λ e. omega arith) ∙ sym (ne-eqb (suc n) 0 (λ e. omega arith))
+
 -- ---- a cell
 
-module _ (ks : List ℕ) (l c : ℕ) (b : List ℕ) (mask : ℕ) (h : Here ks l c b mask) where
-  pub here-low : Low b
-  here-low o ho = omega (arith, h .entries o ho, entry-lt ks l c o, eight-mono {i = l} {j = limit} (h .shallow))
+module _ (ks : Nodes) (l c : ℕ) (at : List ℕ) (mask gaps : ℕ) (h : Here ks l c at mask gaps) where
+  -- a split entry is the cell that lies that way
+  pub here-side : (o : ℕ) → o < 8 → marked mask o ≡ true → sub c o ≡ entry ks l c o
+  here-side o ho e = side-entry ks l c o (h .shallow) (h .cell) ho (sym (h .marks o ho) ∙ e)
 
-  pub here-small : Small b mask
-  here-small o ho e = here-low o ho
+  pub here-small : Small c mask
+  here-small o ho e = omega (arith, here-side o ho e, entry-lt ks l c o, eight-mono {i = l} {j = limit} (h .shallow))
+
+  -- where each entry stands, by whether it is split
+  pub here-split : (o : ℕ) → o < 8 → marked mask o ≡ true → getD at o 0 ≡ firstAt ks (placeAt ks l c o)
+  here-split o ho e = h .stands o ho ∙ ap (λ (r : Bool). if₀ r (firstAt ks (placeAt ks l c o)) (placeAt ks l c o)) e
+
+  pub here-leaf : (o : ℕ) → o < 8 → marked mask o ≡ false → getD at o 0 ≡ placeAt ks l c o
+  here-leaf o ho e = h .stands o ho ∙ ap (λ (r : Bool). if₀ r (firstAt ks (placeAt ks l c o)) (placeAt ks l c o)) e
+
+  pub here-near : (most : ℕ) → length (ks .keys) ≤ most → Near at most
+  here-near most k = record { each = λ o ho. go o ho (marked mask o) refl }
+    where
+      go : (o : ℕ) → o < 8 → (r : Bool) → marked mask o ≡ r → getD at o 0 ≤ most
+      go o ho true e = omega (arith, here-split o ho e, split-inside ks l c o (sym (h .marks o ho) ∙ e))
+      go o ho false e = omega (arith, here-leaf o ho e, place-most ks l c o)
 
   pub here-bound : c < 2 ^ 60
   here-bound = omega (arith, cell-lt l limit c (h .cell) (h .shallow))
@@ -192,33 +233,50 @@ module _ (ks : List ℕ) (l c : ℕ) (b : List ℕ) (mask : ℕ) (h : Here ks l 
 
   module _ (q : ℕ) (hq : q < 8) where
     module _ (o : ℕ) (ho : o < 8) where
-      -- the parent's entry and its mark, by the block
-      pub from-is : getD b (bitAnd o (7 - q)) 0 ≡ from ks l c q o hq ho
-      unfolding from
-      from-is = h .entries (bitAnd o (7 - q)) (kept-lt o q ho)
-
+      -- the parent's mark, by the block
       pub mark-is : marked mask (bitAnd o (7 - q)) ≡ splitAt ks l (from ks l c q o hq ho)
       unfolding from
       mark-is = h .marks (bitAnd o (7 - q)) (kept-lt o q ho)
 
-      entry-is : lowered b mask q o ≡ entry ks (suc l) (8 * c + q) o
-      unfolding lowered
-      entry-is = ap₂ (λ (r : Bool) (n : ℕ). if₀ r (8 * n + bitXor q o) n) mark-is from-is ∙ sym (entry-step ks l c q o hq ho)
+      -- where it stands
+      pub place-is : loweredPlace at mask q o ≡ placeAt ks (suc l) (8 * c + q) o
+      unfolding loweredPlace fromPlace
+      place-is = go (marked mask (bitAnd o (7 - q))) refl ∙ sym (place-step ks l c q o hq ho)
+        where
+          go : (r : Bool) → marked mask (bitAnd o (7 - q)) ≡ r
+              → if₀ (marked mask (bitAnd o (7 - q))) (getD at (bitAnd o (7 - q)) 0 + bitXor q o) (getD at (bitAnd o (7 - q)) 0)
+              ≡ if₀ (splitAt ks l (from ks l c q o hq ho)) (firstAt ks (fromPlace ks l c q o hq ho) + bitXor q o) (fromPlace ks l c q o hq ho)
+          go true e =
+              ap (λ (r : Bool). if₀ r (getD at (bitAnd o (7 - q)) 0 + bitXor q o) (getD at (bitAnd o (7 - q)) 0)) e
+              ∙ ap (λ (n : ℕ). n + bitXor q o) (here-split (bitAnd o (7 - q)) (kept-lt o q ho) e)
+              ∙ sym (ap (λ (r : Bool). if₀ r (firstAt ks (fromPlace ks l c q o hq ho) + bitXor q o) (fromPlace ks l c q o hq ho)) (sym mark-is ∙ e))
+          go false e =
+              ap (λ (r : Bool). if₀ r (getD at (bitAnd o (7 - q)) 0 + bitXor q o) (getD at (bitAnd o (7 - q)) 0)) e
+              ∙ here-leaf (bitAnd o (7 - q)) (kept-lt o q ho) e
+              ∙ sym (ap (λ (r : Bool). if₀ r (firstAt ks (fromPlace ks l c q o hq ho) + bitXor q o) (fromPlace ks l c q o hq ho)) (sym mark-is ∙ e))
 
-    module _ (below : ℕ) (bm : BelowMarks ks b mask below) where
+    -- an entry is no node where the parent's is none
+    gap-step : (o : ℕ) → o < 8 → marked gaps (bitAnd o (7 - q)) ≡ eqb (entry ks (suc l) (8 * c + q) o) 0
+    unfolding from
+    gap-step o ho =
+        h .none .marks (bitAnd o (7 - q)) (kept-lt o q ho)
+        ∙ zero-as (entry ks l c (bitAnd o (7 - q))) (entry ks (suc l) (8 * c + q) o) (node-down ks l c q o hq ho) (node-up ks l c q o hq ho)
+
+    module _ (below : ℕ) (bm : BelowMarks ks c at mask below) where
       mark-step : (o : ℕ) → o < 8 → loweredMark mask below q o ≡ splitAt ks (suc l) (entry ks (suc l) (8 * c + q) o)
+      unfolding from fromPlace
       mark-step o ho = go (marked mask (bitAnd o (7 - q))) refl
         where
           rest : (r : Bool) → marked mask (bitAnd o (7 - q)) ≡ r
-              → (r && childSplit ks (from ks l c q o hq ho) (bitXor q o)) ≡ splitAt ks (suc l) (entry ks (suc l) (8 * c + q) o)
+              → (r && steps ks (firstAt ks (fromPlace ks l c q o hq ho) + bitXor q o) (8 * from ks l c q o hq ho + bitXor q o)) ≡ splitAt ks (suc l) (entry ks (suc l) (8 * c + q) o)
           rest r e =
-              ap (λ (t : Bool). t && childSplit ks (from ks l c q o hq ho) (bitXor q o)) (sym e ∙ mark-is o ho) ∙ sym (split-step ks l c q o hq ho)
+              ap (λ (t : Bool). t && steps ks (firstAt ks (fromPlace ks l c q o hq ho) + bitXor q o) (8 * from ks l c q o hq ho + bitXor q o)) (sym e ∙ mark-is o ho) ∙ sym (split-step ks l c q o hq ho)
 
           go : (r : Bool) → marked mask (bitAnd o (7 - q)) ≡ r → loweredMark mask below q o ≡ splitAt ks (suc l) (entry ks (suc l) (8 * c + q) o)
           go true e =
               mark-yes mask below q o e
               ∙ bm (bitAnd o (7 - q)) (kept-lt o q ho) e (bitXor q o) (flip-lt q o hq ho)
-              ∙ ap (λ (n : ℕ). childSplit ks n (bitXor q o)) (from-is o ho)
+              ∙ ap₂ (λ (m n : ℕ). steps ks (m + bitXor q o) (8 * n + bitXor q o)) (here-split (bitAnd o (7 - q)) (kept-lt o q ho) e) (here-side (bitAnd o (7 - q)) (kept-lt o q ho) e)
               ∙ rest true e
           go false e = mark-no mask below q o e ∙ rest false e
 
@@ -229,68 +287,70 @@ module _ (ks : List ℕ) (l c : ℕ) (b : List ℕ) (mask : ℕ) (h : Here ks l 
             none-is (λ o. splitAt ks (suc l) (entry ks (suc l) (8 * c + q) o)) 8
             (λ o ho. sym (mark-step o ho) ∙ (sym (lm .marks o ho) ∙ (ap (λ (m : ℕ). marked m o) z ∙ marked-zero o)))
 
-        pub here-step : l < limit → (d : List ℕ) → Lowered b mask q d → Here ks (suc l) (8 * c + q) d r
-        here-step hl d lw =
+        pub here-step : l < limit → (e : List ℕ) → LoweredAt (ks .firsts) at mask r q e → (g : ℕ) → LoweredGaps gaps q g → Here ks (suc l) (8 * c + q) e r g
+        unfolding loweredAt firstAt
+        here-step hl e la g lg =
             record {
               shallow = omega arith;
               cell = child-cell l c q (h .cell) (omega arith);
-              entries = λ o ho. lw o ho ∙ entry-is o ho;
               small = lm .small;
               marks = λ o ho. lm .marks o ho ∙ mark-step o ho;
+              stands = λ o ho. la o ho ∙ ap (λ (n : ℕ). if₀ (marked r o) (getD (ks .firsts) n 0) n) (place-is o ho);
+              none = record { small = lg .small; marks = λ o ho. lg .marks o ho ∙ gap-step o ho };
             }
 
     -- what is seen of the block tells whether the child's low corner is listed
-    module _ (gaps : ℕ) (g : Gaps b gaps) where
-      gap-no : (o : ℕ) (ho : o < 8) → 0 < from ks l c q o hq ho → marked gaps (bitAnd o (7 - q)) ≡ false
-      gap-no o ho p =
-          g .marks (bitAnd o (7 - q)) (kept-lt o q ho) ∙ ne-eqb (getD b (bitAnd o (7 - q)) 0) 0 (λ z. omega (arith, from-is o ho))
+    gap-no : (o : ℕ) (ho : o < 8) → 0 < from ks l c q o hq ho → marked gaps (bitAnd o (7 - q)) ≡ false
+    unfolding from
+    gap-no o ho p = h .none .marks (bitAnd o (7 - q)) (kept-lt o q ho) ∙ ne-eqb (entry ks l c (bitAnd o (7 - q))) 0 (λ z. omega arith)
 
-      no-gap : (o : ℕ) (ho : o < 8) → marked gaps (bitAnd o (7 - q)) ≡ false → 0 < from ks l c q o hq ho
-      no-gap o ho e =
-          pos (from ks l c q o hq ho) (λ z. eqb-false (getD b (bitAnd o (7 - q)) 0) 0 (sym (g .marks (bitAnd o (7 - q)) (kept-lt o q ho)) ∙ e) (from-is o ho ∙ z))
-        where
-          pos : (n : ℕ) → (n ≡ 0 → ⊥) → 0 < n
-          pos zero f = absurd (f refl)
-          pos (suc n) f = omega arith
+    no-gap : (o : ℕ) (ho : o < 8) → marked gaps (bitAnd o (7 - q)) ≡ false → 0 < from ks l c q o hq ho
+    unfolding from
+    no-gap o ho e =
+        pos (entry ks l c (bitAnd o (7 - q))) (eqb-false (entry ks l c (bitAnd o (7 - q))) 0 (sym (h .none .marks (bitAnd o (7 - q)) (kept-lt o q ho)) ∙ e))
+      where
+        pos : (n : ℕ) → (n ≡ 0 → ⊥) → 0 < n
+        pos zero f = absurd (f refl)
+        pos (suc n) f = omega arith
 
-      touched-meets : Touched gaps mask q → meets ks (suc l) (8 * c + q) ≡ true
-      unfolding meets
-      touched-meets t =
-          let o = t .fine .0 in
-          let ho = t .fine .1 in
-          ap₂ _&&_
-          (all-if (λ o. ltb 0 (entry ks (suc l) (8 * c + q) o)) 8 (λ o ho. lt-ltb 0 _ (node-down ks l c q o hq ho (no-gap o ho (t .full o ho)))))
-          (some-if (λ o. leb (8 ^ suc l) (entry ks (suc l) (8 * c + q) o)) 8 o ho
-          (le-leb (8 ^ suc l) _ (fine-down ks l c q o hq ho (sym (mark-is o ho) ∙ t .fine .2))))
+    touched-meets : Touched gaps mask q → meets ks (suc l) (8 * c + q) ≡ true
+    unfolding meets
+    touched-meets t =
+        let o = t .fine .0 in
+        let ho = t .fine .1 in
+        ap₂ _&&_
+        (all-if (λ o. ltb 0 (entry ks (suc l) (8 * c + q) o)) 8 (λ o ho. lt-ltb 0 _ (node-down ks l c q o hq ho (no-gap o ho (t .full o ho)))))
+        (some-if (λ o. leb (8 ^ suc l) (entry ks (suc l) (8 * c + q) o)) 8 o ho
+        (le-leb (8 ^ suc l) _ (fine-down ks l c q o hq ho (sym (mark-is o ho) ∙ t .fine .2))))
 
-      meets-touched : meets ks (suc l) (8 * c + q) ≡ true → Touched gaps mask q
-      unfolding meets
-      meets-touched e =
-          let b = and-true _ _ e in
-          let s = some-is (λ o. leb (8 ^ suc l) (entry ks (suc l) (8 * c + q) o)) 8 (b .1) in
-          record {
-            full = λ o ho.
-                gap-no o ho (node-up ks l c q o hq ho (ltb-true 0 _ (all-is (λ o. ltb 0 (entry ks (suc l) (8 * c + q) o)) 8 (b .0) o ho)));
-            fine = (s .0, s .1, mark-is (s .0) (s .1) ∙ fine-up ks l c q (s .0) hq (s .1) (leb-true (8 ^ suc l) _ (s .2)));
-          }
+    meets-touched : meets ks (suc l) (8 * c + q) ≡ true → Touched gaps mask q
+    unfolding meets
+    meets-touched e =
+        let b = and-true _ _ e in
+        let s = some-is (λ o. leb (8 ^ suc l) (entry ks (suc l) (8 * c + q) o)) 8 (b .1) in
+        record {
+          full = λ o ho.
+              gap-no o ho (node-up ks l c q o hq ho (ltb-true 0 _ (all-is (λ o. ltb 0 (entry ks (suc l) (8 * c + q) o)) 8 (b .0) o ho)));
+          fine = (s .0, s .1, mark-is (s .0) (s .1) ∙ fine-up ks l c q (s .0) hq (s .1) (leb-true (8 ^ suc l) _ (s .2)));
+        }
 
-      pub meets-is : (r : Bool) → Decides r (Touched gaps mask q) → meets ks (suc l) (8 * c + q) ≡ r
-      meets-is true d = touched-meets d
-      meets-is false d = go (meets ks (suc l) (8 * c + q)) refl
-        where
-          go : (r : Bool) → meets ks (suc l) (8 * c + q) ≡ r → meets ks (suc l) (8 * c + q) ≡ false
-          go true e = absurd (d (meets-touched e))
-          go false e = e
+    pub meets-is : (r : Bool) → Decides r (Touched gaps mask q) → meets ks (suc l) (8 * c + q) ≡ r
+    meets-is true d = touched-meets d
+    meets-is false d = go (meets ks (suc l) (8 * c + q)) refl
+      where
+        go : (r : Bool) → meets ks (suc l) (8 * c + q) ≡ r → meets ks (suc l) (8 * c + q) ≡ false
+        go true e = absurd (d (meets-touched e))
+        go false e = e
 
 -- a child where the walk goes on
-pub step-on : (ks : List ℕ) (l c : ℕ) (b : List ℕ) (mask : ℕ) (h : Here ks l c b mask) → l < limit → (q : ℕ) (hq : q < 8) (below : ℕ)
-    → BelowMarks ks b mask below → (r : ℕ) → LoweredMarks mask below q r → (r ≡ 0 → ⊥) → (d : List ℕ) → Lowered b mask q d
-    → Here ks (l + 1) (8 * c + q) d r × (divided ks (l + 1) (8 * c + q) ≡ true)
-step-on ks l c b mask h hl q hq below bm r lm nz d lw =
-    subst (λ (n : ℕ). Here ks n (8 * c + q) d r × (divided ks n (8 * c + q) ≡ true)) (sym (add-one l)) (there, here-divided ks (suc l) (8 * c + q) d r there nz)
+pub step-on : (ks : Nodes) (l c : ℕ) (at : List ℕ) (mask gaps : ℕ) (h : Here ks l c at mask gaps) → l < limit → (q : ℕ) (hq : q < 8) (below : ℕ)
+    → BelowMarks ks c at mask below → (r : ℕ) → LoweredMarks mask below q r → (r ≡ 0 → ⊥) → (e : List ℕ) → LoweredAt (ks .firsts) at mask r q e
+    → (g : ℕ) → LoweredGaps gaps q g → Here ks (l + 1) (8 * c + q) e r g × (divided ks (l + 1) (8 * c + q) ≡ true)
+step-on ks l c at mask gaps h hl q hq below bm r lm nz e la g lg =
+    subst (λ (n : ℕ). Here ks n (8 * c + q) e r g × (divided ks n (8 * c + q) ≡ true)) (sym (add-one l)) (there, here-divided ks (suc l) (8 * c + q) e r g there nz)
   where
-    there : Here ks (suc l) (8 * c + q) d r
-    there = here-step ks l c b mask h q hq below bm r lm hl d lw
+    there : Here ks (suc l) (8 * c + q) e r g
+    there = here-step ks l c at mask gaps h q hq below bm r lm hl e la g lg
 
 -- ---- tables
 
@@ -323,100 +383,3 @@ sets-append (v ∷ vs) us l i =
 pub laid-none : (at : ℕ) (v l : List ℕ) → Laid [] at at v l v l
 unfolding verticesOf levelsOf
 laid-none at v l = record { count = omega arith; tables = λ p q. (refl, refl) }
-
-laid-one : (s : Spot) (at : ℕ) (v0 l0 v1 l1 : List ℕ) → PutSays v0 l0 at (s .vertex) (s .level) v1 l1 → Laid (s ∷ []) at (at + 1) v0 l0 v1 l1
-unfolding verticesOf levelsOf
-laid-one s at v0 l0 v1 l1 p = record { count = refl; tables = λ a b. p (omega arith) (omega arith) }
-
-laid-join : (ss ts : List Spot) (at n r : ℕ) (v0 l0 v1 l1 v2 l2 : List ℕ) → length v1 ≡ length v0 → length l1 ≡ length l0
-    → Laid ss at n v0 l0 v1 l1 → Laid ts n r v1 l1 v2 l2 → Laid (ss ++ ts) at r v0 l0 v2 l2
-laid-join ss ts at n r v0 l0 v1 l1 v2 l2 ev el a b =
-    record {
-      count = omega (arith, a .count, b .count, length-append ss ts);
-      tables = λ p q. (
-        one (verticesOf ss) (verticesOf ts) (verticesOf (ss ++ ts)) v0 v1 v2 (vertices-append ss ts) (omega (arith, a .count, vertices-length ss)) (a .tables (small p) (small q) .0) (b .tables (omega arith) (omega arith) .0),
-        one (levelsOf ss) (levelsOf ts) (levelsOf (ss ++ ts)) l0 l1 l2 (levels-append ss ts) (omega (arith, a .count, levels-length ss)) (a .tables (small p) (small q) .1) (b .tables (omega arith) (omega arith) .1),
-      );
-    }
-  where
-    small : {m : ℕ} → r ≤ m → n ≤ m
-    small h = omega (arith, b .count)
-
-    one : (xs ys zs t0 t1 t2 : List ℕ) → zs ≡ xs ++ ys → n ≡ at + length xs → t1 ≡ sets t0 at xs → t2 ≡ sets t1 n ys → t2 ≡ sets t0 at zs
-    one xs ys zs t0 t1 t2 z e p q =
-        q
-        ∙ ap (λ (t : List ℕ). sets t n ys) p
-        ∙ ap (λ (k : ℕ). sets (sets t0 at xs) k ys) e
-        ∙ sym (sets-append xs ys t0 at)
-        ∙ ap (sets t0 at) (sym z)
-
--- ---- a divided cell, child by child
-
--- q children are walked
-abbrev pub Part : List ℕ → ℕ → ℕ → ℕ → ℕ → ℕ → List ℕ → List ℕ → List ℕ → List ℕ → Type 0
-Part ks l c q at n v0 l0 v1 l1 = Laid (inTurn (λ w. walked (limit - suc l) ks (suc l) (8 * c + w)) q) at n v0 l0 v1 l1
-
--- the part of one child
-abbrev pub Child : List ℕ → ℕ → ℕ → ℕ → ℕ → ℕ → List ℕ → List ℕ → List ℕ → List ℕ → Type 0
-Child ks l c q n r v1 l1 v2 l2 = Laid (walked (limit - suc l) ks (suc l) (8 * c + q)) n r v1 l1 v2 l2
-
-module _ (ks : List ℕ) (l c : ℕ) where
-  pub part-none : (at : ℕ) (v l' : List ℕ) → Part ks l c 0 at at v l' v l'
-  unfolding inTurn
-  part-none at v l' = laid-none at v l'
-
-  pub part-more : (q at n r : ℕ) (v0 l0 v1 l1 v2 l2 : List ℕ) → length v1 ≡ length v0 → length l1 ≡ length l0 → Part ks l c q at n v0 l0 v1 l1
-      → Child ks l c q n r v1 l1 v2 l2 → Part ks l c (q + 1) at r v0 l0 v2 l2
-  unfolding inTurn
-  part-more q at n r v0 l0 v1 l1 v2 l2 ev el a b =
-      subst (λ (k : ℕ). Part ks l c k at r v0 l0 v2 l2) (sym (add-one q))
-      (laid-join (inTurn (λ w. walked (limit - suc l) ks (suc l) (8 * c + w)) q) (walked (limit - suc l) ks (suc l) (8 * c + q)) at n r v0 l0 v1 l1 v2 l2 ev el a b)
-
-  pub part-room : (q at n : ℕ) (v0 l0 v1 l1 : List ℕ) → q < 8 → l < limit → at + 8 ^ (limit - l) < 2 ^ 64 → Part ks l c q at n v0 l0 v1 l1
-      → n + 8 ^ (limit - (l + 1)) < 2 ^ 64
-  part-room q at n v0 l0 v1 l1 hq hl r p =
-      omega (
-        arith,
-        ap (λ (k : ℕ). 8 ^ (limit - k)) (add-one l),
-        p .count,
-        turns-most ks (λ w. walked (limit - suc l) ks (suc l) (8 * c + w)) (8 ^ (limit - suc l)) q (λ w. walked-most ks (limit - suc l) (suc l) (8 * c + w)),
-        mul-le-mul-right {m = q} {n = 7} (8 ^ (limit - suc l)) (omega arith),
-        deeper,
-      )
-    where
-      deeper : 8 ^ (limit - l) ≡ 8 * 8 ^ (limit - suc l)
-      deeper = let e : limit - l ≡ suc (limit - suc l) = omega arith in ap (λ (n : ℕ). 8 ^ n) e ∙ omega (arith, pow-suc 8 (limit - suc l))
-
-  pub part-all : (q at n : ℕ) (v0 l0 v1 l1 : List ℕ) → q ≡ 8 → l < limit → divided ks l c ≡ true → Part ks l c q at n v0 l0 v1 l1
-      → Laid (walked (limit - l) ks l c) at n v0 l0 v1 l1
-  part-all q at n v0 l0 v1 l1 e hl d p =
-      let s : limit - l ≡ suc (limit - suc l) = omega arith in
-      subst (λ (ss : List Spot). Laid ss at n v0 l0 v1 l1) (sym (ap (λ (k : ℕ). walked k ks l c) s ∙ walked-on ks l c (limit - suc l) d))
-      (subst (λ (k : ℕ). Part ks l c k at n v0 l0 v1 l1) e p)
-
-  -- too deep to go on
-  pub part-deep : (at : ℕ) (v l' : List ℕ) → limit ≤ l → divided ks l c ≡ true → Laid (walked (limit - l) ks l c) at at v l' v l'
-  part-deep at v l' h d =
-      let z : limit - l ≡ 0 = omega arith in
-      subst (λ (ss : List Spot). Laid ss at at v l' v l') (sym (ap (λ (k : ℕ). walked k ks l c) z ∙ walked-stop ks l c d)) (laid-none at v l')
-
-  -- a child where the walk ends
-  module _ (q : ℕ) (still : divided ks (suc l) (8 * c + q) ≡ false) where
-    pub child-none : meets ks (suc l) (8 * c + q) ≡ false → (n : ℕ) (v l' : List ℕ) → Child ks l c q n n v l' v l'
-    child-none m n v l' =
-        subst (λ (ss : List Spot). Laid ss n n v l' v l')
-        (sym (walked-end ks (suc l) (8 * c + q) (limit - suc l) still ∙ ending-none ks (suc l) (8 * c + q) m)) (laid-none n v l')
-
-    pub child-one : meets ks (suc l) (8 * c + q) ≡ true → (n x : ℕ) (v0 l0 v1 l1 : List ℕ) → x ≡ lowCorner (l + 1) (8 * c + q) → PutSays v0 l0 n x (l + 1) v1 l1
-        → Child ks l c q n (n + 1) v0 l0 v1 l1
-    child-one m n x v0 l0 v1 l1 e p =
-        subst (λ (ss : List Spot). Laid ss n (n + 1) v0 l0 v1 l1)
-        (sym (walked-end ks (suc l) (8 * c + q) (limit - suc l) still ∙ ending-one ks (suc l) (8 * c + q) m))
-        (laid-one (record { vertex = lowCorner (suc l) (8 * c + q); level = suc l }) n v0 l0 v1 l1
-        (subst (λ (y : ℕ). PutSays v0 l0 n y (suc l) v1 l1) (e ∙ ap (λ (k : ℕ). lowCorner k (8 * c + q)) (add-one l))
-        (subst (λ (k : ℕ). PutSays v0 l0 n x k v1 l1) (add-one l) p)))
-
--- the level of the code
-pub level-on : (ks : List ℕ) (l c q n r : ℕ) (v0 l0 v1 l1 : List ℕ) → Laid (walked (limit - (l + 1)) ks (l + 1) (8 * c + q)) n r v0 l0 v1 l1
-    → Child ks l c q n r v0 l0 v1 l1
-level-on ks l c q n r v0 l0 v1 l1 a = subst (λ (k : ℕ). Laid (walked (limit - k) ks k (8 * c + q)) n r v0 l0 v1 l1) (add-one l) a

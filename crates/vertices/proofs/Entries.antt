@@ -1,16 +1,20 @@
 -- The entries of a child from those of its parent, and where the walk ends, on any table of keys. Assumes nothing.
 use Prim.Native.Nat.{ℕ, zero, suc, _+_, _*_, _-_, _/_, _%_, _^_, _≤_, _<_}
 use mathlib.Core.Path.{_≡_, refl, sym, _∙_, ap, ap₂, subst}
-use mathlib.Core.Bool.{Bool, true, false, cond, _&&_, true≢false}
+use mathlib.Core.Bool.{Bool, true, false, _&&_, true≢false}
 use mathlib.Core.List.{List}
 use native.Mathlib.Nat.{pow-suc}
+use native.Mathlib.Decide.{decLt}
 use native.Mathlib.Omega.{arith}
 use lib.Bits.{bitAnd, bitXor}
-use lib.Dec.{eqb, leb}
-use borrow.Author.Tests.{leb-true, le-leb, lt-leb, ne-eqb}
+use lib.Dec.{leb}
+use lib.ListN.{length}
+use borrow.Author.Tests.{leb-true, le-leb, lt-leb}
 use Rattle.morton.specs.Level.{if₀, Cell}
 use Rattle.morton.proofs.Levels.{and-true, eight-pos}
-use Rattle.vertices.specs.Walk.{childSplit, rootSplit, isSplit, splitAt, near, inCube, over, entry}
+use Rattle.tree.specs.Down.{Nodes, firstAt, steps, reach, isSplit, over, placeOver}
+use Rattle.tree.proofs.Down.{split-below, reach-down, over-down, over-stay, place-down, place-stay, over-split, place-split, over-le, over-same, place-le}
+use Rattle.vertices.specs.Walk.{splitAt, near, inCube, entry, placeAt}
 use Rattle.vertices.proofs.Offsets.{kept-lt, flip-lt, near-cell, in-cube, cube-in, within-up, within-down, near-step}
 
 -- ---- tests
@@ -22,43 +26,30 @@ same false false f g = refl
 
 -- ---- nodes
 
-module _ (ks : List ℕ) where
-  pub over-le : (l x : ℕ) → over ks l x ≤ x
-  unfolding over
-  over-le zero x = omega arith
-  over-le (suc l) x = go (splitAt ks l (over ks l (x / 8))) (over-le l (x / 8))
-    where
-      go : (r : Bool) → over ks l (x / 8) ≤ x / 8 → if₀ r x (over ks l (x / 8)) ≤ x
-      go true h = omega arith
-      go false h = omega arith
-
-  -- a node of the cell's own level is that cell
-  pub over-same : (l x : ℕ) → Cell l x → 8 ^ l ≤ over ks l x → over ks l x ≡ x
-  unfolding over
-  over-same zero x c h = refl
-  over-same (suc l) x c h = go (splitAt ks l (over ks l (x / 8))) h
-    where
-      go : (r : Bool) → 8 ^ suc l ≤ if₀ r x (over ks l (x / 8)) → if₀ r x (over ks l (x / 8)) ≡ x
-      go true h = refl
-      go false h = absurd (omega (arith, over-le l (x / 8), c .high, pow-suc 8 l, eight-pos l))
-
+module _ (ks : Nodes) where
   pub split-deep : (l p : ℕ) → splitAt ks l p ≡ true → 8 ^ l ≤ p
   unfolding splitAt
   split-deep l p e = leb-true _ _ (and-true _ _ e .0)
 
   pub split-low : (l p : ℕ) → p < 8 ^ l → splitAt ks l p ≡ false
   unfolding splitAt
-  split-low l p h = ap (λ (r : Bool). r && isSplit ks p) (lt-leb _ _ h)
+  split-low l p h = ap (λ (r : Bool). r && isSplit ks l p) (lt-leb _ _ h)
 
-  -- a child of a split node
-  split-child : (l p w : ℕ) → 8 ^ l ≤ p → w < 8 → splitAt ks (suc l) (8 * p + w) ≡ childSplit ks p w
-  unfolding splitAt isSplit
-  split-child l p w h hw =
-      let d : (8 * p + w) / 8 ≡ p = omega arith in
-      let m : (8 * p + w) % 8 ≡ w = omega arith in
-      ap (λ (r : Bool). r && isSplit ks (8 * p + w)) (le-leb (8 ^ suc l) (8 * p + w) (omega (arith, pow-suc 8 l)))
-      ∙ ap (λ (r : Bool). cond r (rootSplit ks) (childSplit ks ((8 * p + w) / 8) ((8 * p + w) % 8))) (ne-eqb (8 * p + w) 1 (λ e. omega (arith, eight-pos l)))
-      ∙ ap₂ (childSplit ks) d m
+  pub split-at : (l p : ℕ) → 8 ^ l ≤ p → splitAt ks l p ≡ isSplit ks l p
+  unfolding splitAt
+  split-at l p h = ap (λ (r : Bool). r && isSplit ks l p) (le-leb _ _ h)
+
+  -- of the node over a cell: whether it is the cell, and split
+  pub split-over : (l x : ℕ) → Cell l x → splitAt ks l (over ks l x) ≡ isSplit ks l x
+  split-over l x c = go (isSplit ks l x) refl
+    where
+      go : (r : Bool) → isSplit ks l x ≡ r → splitAt ks l (over ks l x) ≡ isSplit ks l x
+      go true e = ap (splitAt ks l) (over-split ks l x e) ∙ split-at l x (c .low)
+      go false e =
+          elim (decLt (over ks l x) (8 ^ l)) [
+            | yes h ↦ split-low l (over ks l x) h ∙ sym e
+            | no h ↦ let s : over ks l x ≡ x = over-same ks l x c (omega arith) in ap (splitAt ks l) s ∙ split-at l x (c .low)
+          ]
 
   -- ---- entries
 
@@ -71,11 +62,26 @@ module _ (ks : List ℕ) where
     unfolding entry
     entry-out e = ap (λ (r : Bool). if₀ r (over ks l (near l c o)) 0) e
 
+    pub place-in : inCube l c o ≡ true → placeAt ks l c o ≡ placeOver ks l (near l c o)
+    unfolding placeAt
+    place-in e = ap (λ (r : Bool). if₀ r (placeOver ks l (near l c o)) 0) e
+
+    pub place-out : inCube l c o ≡ false → placeAt ks l c o ≡ 0
+    unfolding placeAt
+    place-out e = ap (λ (r : Bool). if₀ r (placeOver ks l (near l c o)) 0) e
+
+    pub place-most : placeAt ks l c o ≤ length (ks .keys)
+    place-most = go (inCube l c o) refl
+      where
+        go : (r : Bool) → inCube l c o ≡ r → placeAt ks l c o ≤ length (ks .keys)
+        go true e = omega (arith, place-in e, place-le ks l (near l c o))
+        go false e = omega (arith, place-out e)
+
     pub entry-lt : entry ks l c o < 2 * 8 ^ l
     entry-lt = go (inCube l c o) refl
       where
         go : (r : Bool) → inCube l c o ≡ r → entry ks l c o < 2 * 8 ^ l
-        go true e = omega (arith, entry-in e, over-le l (near l c o), near-cell l c o .high)
+        go true e = omega (arith, entry-in e, over-le ks l (near l c o), near-cell l c o .high)
         go false e = omega (arith, entry-out e, eight-pos l)
 
   module _ (l c q o : ℕ) (hq : q < 8) (ho : o < 8) where
@@ -85,14 +91,22 @@ module _ (ks : List ℕ) where
         (λ e. cube-in l c (bitAnd o (7 - q)) (within-up l c q o hq ho (in-cube (suc l) (8 * c + q) o e)))
         (λ e. cube-in (suc l) (8 * c + q) o (within-down l c q o hq ho (in-cube l c (bitAnd o (7 - q)) e)))
 
-    -- the entry of the parent that lies that way
+    -- the entry of the parent that lies that way, and its place
     unfoldable pub from : ℕ
     from = entry ks l c (bitAnd o (7 - q))
 
-    -- entry o of child q
-    pub entry-step : entry ks (suc l) (8 * c + q) o ≡ if₀ (splitAt ks l from) (8 * from + bitXor q o) from
-    unfolding from over
-    entry-step = go (inCube l c (bitAnd o (7 - q))) refl
+    unfoldable pub fromPlace : ℕ
+    fromPlace = placeAt ks l c (bitAnd o (7 - q))
+
+    -- what entry o of child q is, with its place, and whether it is split
+    pub record Below : Type 0 where
+      pub entry-is : entry ks (suc l) (8 * c + q) o ≡ if₀ (splitAt ks l from) (8 * from + bitXor q o) from
+      pub place-is : placeAt ks (suc l) (8 * c + q) o ≡ if₀ (splitAt ks l from) (firstAt ks fromPlace + bitXor q o) fromPlace
+      pub split-is : splitAt ks (suc l) (entry ks (suc l) (8 * c + q) o) ≡ (splitAt ks l from && steps ks (firstAt ks fromPlace + bitXor q o) (8 * from + bitXor q o))
+
+    below : Below
+    unfolding from fromPlace
+    below = go (inCube l c (bitAnd o (7 - q))) refl
       where
         x : ℕ
         x = near (suc l) (8 * c + q) o
@@ -100,24 +114,87 @@ module _ (ks : List ℕ) where
         y : ℕ
         y = near l c (bitAnd o (7 - q))
 
-        choose : (r : Bool) → (r ≡ true → x ≡ 8 * over ks l y + bitXor q o) → if₀ r x (over ks l y) ≡ if₀ r (8 * over ks l y + bitXor q o) (over ks l y)
-        choose true f = f refl
-        choose false f = refl
+        cy : Cell l y
+        cy = near-cell l c (bitAnd o (7 - q))
 
-        go : (r : Bool) → inCube l c (bitAnd o (7 - q)) ≡ r
-            → entry ks (suc l) (8 * c + q) o ≡ if₀ (splitAt ks l (entry ks l c (bitAnd o (7 - q)))) (8 * entry ks l c (bitAnd o (7 - q)) + bitXor q o) (entry ks l c (bitAnd o (7 - q)))
-        go true e =
+        -- in the cube, by whether the parent's node is split
+        inside : inCube l c (bitAnd o (7 - q)) ≡ true → (r : Bool) → isSplit ks l y ≡ r → Below
+        inside e true s =
             let step : x ≡ 8 * y + bitXor q o = near-step l c q o hq ho (in-cube l c (bitAnd o (7 - q)) e) in
             let half : x / 8 ≡ y = omega (arith, step, flip-lt q o hq ho) in
-            entry-in (suc l) (8 * c + q) o (cube-step ∙ e)
-            ∙ ap (λ (n : ℕ). if₀ (splitAt ks l (over ks l n)) x (over ks l n)) half
-            ∙ choose (splitAt ks l (over ks l y))
-            (λ s. step ∙ ap (λ (n : ℕ). 8 * n + bitXor q o) (sym (over-same l y (near-cell l c (bitAnd o (7 - q))) (split-deep l (over ks l y) s))))
-            ∙ ap (λ (n : ℕ). if₀ (splitAt ks l n) (8 * n + bitXor q o) n) (sym (entry-in l c (bitAnd o (7 - q)) e))
+            let rest : x % 8 ≡ bitXor q o = omega (arith, step, flip-lt q o hq ho) in
+            let sx : isSplit ks l (x / 8) ≡ true = ap (isSplit ks l) half ∙ s in
+            let fy : from ≡ y = entry-in l c (bitAnd o (7 - q)) e ∙ over-split ks l y s in
+            let py : fromPlace ≡ reach ks l y = place-in l c (bitAnd o (7 - q)) e ∙ place-split ks l y s in
+            let sf : splitAt ks l from ≡ true = ap (splitAt ks l) fy ∙ split-at l y (cy .low) ∙ s in
+            let ex : entry ks (suc l) (8 * c + q) o ≡ x = entry-in (suc l) (8 * c + q) o (cube-step ∙ e) ∙ over-down ks l x sx in
+            let rx : reach ks (suc l) x ≡ firstAt ks fromPlace + bitXor q o =
+            reach-down ks l x ∙ ap₂ (λ (m w : ℕ). firstAt ks (reach ks l m) + w) half rest ∙ ap (λ (m : ℕ). firstAt ks m + bitXor q o) (sym py) in
+            let kx : x ≡ 8 * from + bitXor q o = step ∙ ap (λ (m : ℕ). 8 * m + bitXor q o) (sym fy) in
+            record {
+              entry-is = ex ∙ kx ∙ sym (ap (λ (r : Bool). if₀ r (8 * from + bitXor q o) from) sf);
+              place-is =
+                  place-in (suc l) (8 * c + q) o (cube-step ∙ e)
+                  ∙ place-down ks l x sx
+                  ∙ rx
+                  ∙ sym (ap (λ (r : Bool). if₀ r (firstAt ks fromPlace + bitXor q o) fromPlace) sf);
+              split-is =
+                  ap (splitAt ks (suc l)) ex
+                  ∙ split-at (suc l) x (near-cell (suc l) (8 * c + q) o .low)
+                  ∙ split-below ks l x sx
+                  ∙ ap₂ (steps ks) rx kx
+                  ∙ sym (ap (λ (r : Bool). r && steps ks (firstAt ks fromPlace + bitXor q o) (8 * from + bitXor q o)) sf);
+            }
+        inside e false s =
+            let step : x ≡ 8 * y + bitXor q o = near-step l c q o hq ho (in-cube l c (bitAnd o (7 - q)) e) in
+            let half : x / 8 ≡ y = omega (arith, step, flip-lt q o hq ho) in
+            let sx : isSplit ks l (x / 8) ≡ false = ap (isSplit ks l) half ∙ s in
+            let fy : from ≡ over ks l y = entry-in l c (bitAnd o (7 - q)) e in
+            let py : fromPlace ≡ placeOver ks l y = place-in l c (bitAnd o (7 - q)) e in
+            let sf : splitAt ks l from ≡ false = ap (splitAt ks l) fy ∙ split-over l y cy ∙ s in
+            let ex : entry ks (suc l) (8 * c + q) o ≡ from =
+            entry-in (suc l) (8 * c + q) o (cube-step ∙ e) ∙ over-stay ks l x sx ∙ ap (over ks l) half ∙ sym fy in
+            record {
+              entry-is = ex ∙ sym (ap (λ (r : Bool). if₀ r (8 * from + bitXor q o) from) sf);
+              place-is =
+                  place-in (suc l) (8 * c + q) o (cube-step ∙ e)
+                  ∙ place-stay ks l x sx
+                  ∙ ap (placeOver ks l) half
+                  ∙ sym py
+                  ∙ sym (ap (λ (r : Bool). if₀ r (firstAt ks fromPlace + bitXor q o) fromPlace) sf);
+              split-is =
+                  ap (splitAt ks (suc l)) ex
+                  ∙ split-low (suc l) from (omega (arith, entry-lt l c (bitAnd o (7 - q)), pow-suc 8 l, eight-pos l))
+                  ∙ sym (ap (λ (r : Bool). r && steps ks (firstAt ks fromPlace + bitXor q o) (8 * from + bitXor q o)) sf);
+            }
+
+        go : (r : Bool) → inCube l c (bitAnd o (7 - q)) ≡ r → Below
+        go true e = inside e (isSplit ks l y) refl
         go false e =
-            entry-out (suc l) (8 * c + q) o (cube-step ∙ e)
-            ∙ sym (ap (λ (r : Bool). if₀ r (8 * 0 + bitXor q o) 0) (split-low l 0 (omega (arith, eight-pos l))))
-            ∙ ap (λ (n : ℕ). if₀ (splitAt ks l n) (8 * n + bitXor q o) n) (sym (entry-out l c (bitAnd o (7 - q)) e))
+            let z : from ≡ 0 = entry-out l c (bitAnd o (7 - q)) e in
+            let pz : fromPlace ≡ 0 = place-out l c (bitAnd o (7 - q)) e in
+            let sf : splitAt ks l from ≡ false = split-low l from (omega (arith, eight-pos l)) in
+            let ex : entry ks (suc l) (8 * c + q) o ≡ from = entry-out (suc l) (8 * c + q) o (cube-step ∙ e) ∙ sym z in
+            record {
+              entry-is = ex ∙ sym (ap (λ (r : Bool). if₀ r (8 * from + bitXor q o) from) sf);
+              place-is =
+                  place-out (suc l) (8 * c + q) o (cube-step ∙ e)
+                  ∙ sym pz
+                  ∙ sym (ap (λ (r : Bool). if₀ r (firstAt ks fromPlace + bitXor q o) fromPlace) sf);
+              split-is =
+                  ap (splitAt ks (suc l)) ex
+                  ∙ split-low (suc l) from (omega (arith, eight-pos (suc l)))
+                  ∙ sym (ap (λ (r : Bool). r && steps ks (firstAt ks fromPlace + bitXor q o) (8 * from + bitXor q o)) sf);
+            }
+
+    pub entry-step : entry ks (suc l) (8 * c + q) o ≡ if₀ (splitAt ks l from) (8 * from + bitXor q o) from
+    entry-step = below .entry-is
+
+    pub place-step : placeAt ks (suc l) (8 * c + q) o ≡ if₀ (splitAt ks l from) (firstAt ks fromPlace + bitXor q o) fromPlace
+    place-step = below .place-is
+
+    pub split-step : splitAt ks (suc l) (entry ks (suc l) (8 * c + q) o) ≡ (splitAt ks l from && steps ks (firstAt ks fromPlace + bitXor q o) (8 * from + bitXor q o))
+    split-step = below .split-is
 
     pub from-lt : from < 8 ^ suc l
     unfolding from
@@ -128,18 +205,6 @@ module _ (ks : List ℕ) where
 
     pub entry-no : splitAt ks l from ≡ false → entry ks (suc l) (8 * c + q) o ≡ from
     entry-no e = entry-step ∙ ap (λ (r : Bool). if₀ r (8 * from + bitXor q o) from) e
-
-    -- whether it is split
-    pub split-step : splitAt ks (suc l) (entry ks (suc l) (8 * c + q) o) ≡ (splitAt ks l from && childSplit ks from (bitXor q o))
-    split-step = go (splitAt ks l from) refl
-      where
-        go : (r : Bool) → splitAt ks l from ≡ r → splitAt ks (suc l) (entry ks (suc l) (8 * c + q) o) ≡ (splitAt ks l from && childSplit ks from (bitXor q o))
-        go true e =
-            ap (splitAt ks (suc l)) (entry-yes e)
-            ∙ split-child l from (bitXor q o) (split-deep l from e) (flip-lt q o hq ho)
-            ∙ sym (ap (λ (r : Bool). r && childSplit ks from (bitXor q o)) e)
-        go false e =
-            ap (splitAt ks (suc l)) (entry-no e) ∙ split-low (suc l) from from-lt ∙ sym (ap (λ (r : Bool). r && childSplit ks from (bitXor q o)) e)
 
     -- whether it is a node, and of the child's own level
     pub node-up : 0 < entry ks (suc l) (8 * c + q) o → 0 < from

@@ -15,6 +15,8 @@ use Rattle.morton.specs.Level.{deepest, limit, Cell, level}
 use Rattle.morton.proofs.Cells.{child-cell}
 use Rattle.morton.proofs.Levels.{and-true, cell-lt, eight-mono}
 use Rattle.tree.specs.Tree.{Tree, In, Sound, treeOf}
+use Rattle.tree.specs.Down.{Nodes}
+use Rattle.tree.proofs.Finding.{nodes}
 use Rattle.tree.proofs.Pass.{said}
 use Rattle.geometry.specs.Listing.{Listed}
 use Rattle.vertices.specs.declared.ListAnswer.{ListAnswer}
@@ -49,7 +51,7 @@ corner-last l c h = ap (lowCorner (suc l)) (omega arith) ∙ corner-first l (c +
 
 -- ---- the walk
 
-module _ (ks : List ℕ) where
+module _ (ks : Nodes) where
   pub meets-is : (l c : ℕ) → meets ks l c ≡ true → Meets ks l c
   unfolding meets
   meets-is l c e =
@@ -142,22 +144,22 @@ module _ (ks : List ℕ) where
 
 -- ---- the whole tree
 
-pub spots-listed : (t : Tree) → Sound t → Listed (t .leaves) (verticesOf (spotsOf (t .keys))) (levelsOf (spotsOf (t .keys)))
+pub spots-listed : (t : Tree) → Sound t → Listed (t .leaves) (verticesOf (spotsOf (nodes t))) (levelsOf (spotsOf (nodes t)))
 unfolding spotsOf
 spots-listed t s =
-    all-listed (t .keys) (t .distances) (t .leaves) s (verticesOf (walked limit (t .keys) 0 1)) (levelsOf (walked limit (t .keys) 0 1))
-    (spots-walked (t .keys) (record { distances = t .distances; leaves = t .leaves; sound = s }) limit 0 1 (omega arith)
+    all-listed (nodes t) (t .distances) (t .leaves) s (verticesOf (walked limit (nodes t) 0 1)) (levelsOf (walked limit (nodes t) 0 1))
+    (spots-walked (nodes t) (record { distances = t .distances; leaves = t .leaves; sound = s }) limit 0 1 (omega arith)
     (record { low = omega arith; high = omega arith }) (λ z. absurd (omega arith)))
 
 -- of a sound tree the list of one who trusts is the list
-pub trusting-list : (t : Tree) → Sound t → (start : ℕ) (was left : Lists) (r : ListAnswer) → TrustingSays (t .keys) start was left r → ListSays t start was left r
+pub trusting-list : (t : Tree) → Sound t → (start : ℕ) (was left : Lists) (r : ListAnswer) → TrustingSays (nodes t) start was left r → ListSays t start was left r
 trusting-list t s start was left (list.Count n) a = (
   s,
   record {
-    vs = verticesOf (spotsOf (t .keys));
-    ls = levelsOf (spotsOf (t .keys));
+    vs = verticesOf (spotsOf (nodes t));
+    ls = levelsOf (spotsOf (nodes t));
     listed = spots-listed t s;
-    count = a .0 ∙ sym (vertices-length (spotsOf (t .keys)));
+    count = a .0 ∙ sym (vertices-length (spotsOf (nodes t)));
     room = a .1;
     vertices-are = ap (λ (x : Lists). x .vertices) (a .2);
     levels-are = ap (λ (x : Lists). x .levels) (a .2);
@@ -168,10 +170,10 @@ trusting-list t s start was left (list.Refused k) a = (
   inr (
     s,
     record {
-      vs = verticesOf (spotsOf (t .keys));
-      ls = levelsOf (spotsOf (t .keys));
+      vs = verticesOf (spotsOf (nodes t));
+      ls = levelsOf (spotsOf (nodes t));
       listed = spots-listed t s;
-      no-room = λ r. a .1 (subst (λ (n : ℕ). Room start n was) (vertices-length (spotsOf (t .keys))) r);
+      no-room = λ r. a .1 (subst (λ (n : ℕ). Room start n was) (vertices-length (spotsOf (nodes t))) r);
     },
     a .2,
   ),

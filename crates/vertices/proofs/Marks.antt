@@ -12,14 +12,14 @@ use lib.Dec.{eqb, ltb}
 use lib.ListN.{length, getD}
 use lib.Pow.{pow-add, pow-lt, pow-pos, pow-mono, high, shr-shr, shl-exact}
 use borrow.Author.Tests.{ltb-true, lt-ltb, le-leb, lt-leb, eqb-true, eq-eqb, ne-eqb}
-use Rattle.morton.specs.Field.{bit}
+use Rattle.morton.specs.Field.{bit, sub}
 use Rattle.morton.specs.Level.{if₀}
 use Rattle.morton.proofs.Fields.{bit-le, div-step, mul-step}
 use Rattle.morton.proofs.Levels.{and-true}
-use Rattle.tree.specs.Tree.{StandsAt, Decides}
-use Rattle.tree.specs.Climb.{firstFrom, standsAt}
-use Rattle.vertices.specs.Walk.{childrenAt, reached, childSplit}
-use Rattle.vertices.specs.Block.{marked, ChildMarks, BelowMarks, Gaps, loweredMark, LoweredMarks}
+use Rattle.tree.specs.Tree.{Decides}
+use Rattle.tree.specs.Down.{Nodes, firstAt, leads, steps}
+use Rattle.tree.proofs.Down.{leads-none}
+use Rattle.vertices.specs.Block.{marked, ChildMarks, BelowMarks, loweredMark, LoweredMarks, LoweredGaps}
 use Rattle.vertices.proofs.Offsets.{and-bit}
 
 -- ---- one bit
@@ -139,88 +139,36 @@ filled-lowered mask below q n r e f =
 
 -- ---- the split children of a node
 
-module _ (ks : List ℕ) (at x : ℕ) where
-  pub stands-yes : StandsAt ks at x → standsAt ks (length ks) at x ≡ true
-  unfolding standsAt
-  stands-yes s = ap₂ _&&_ (lt-ltb at (length ks) (s .inside)) (eq-eqb (getD ks at 0) x (s .here))
+-- the children of p at a place on
+module _ (ks : Nodes) (first p : ℕ) where
+  -- child w is split
+  abbrev pub Steps : ℕ → Type 0
+  Steps w = steps ks (first + w) (8 * p + w) ≡ true
 
-  pub yes-stands : standsAt ks (length ks) at x ≡ true → StandsAt ks at x
-  unfolding standsAt
-  yes-stands e =
-      let b = and-true (ltb at (length ks)) (eqb (getD ks at 0) x) e in
-      record { inside = ltb-true at (length ks) (b .0); here = eqb-true (getD ks at 0) x (b .1) }
+  pub steps-is : (w f : ℕ) → f ≡ firstAt ks (first + w) → leads (ks .keys) f (64 * p + 8 * w) ≡ steps ks (first + w) (8 * p + w)
+  unfolding steps
+  steps-is w f e = ap₂ (leads (ks .keys)) e (omega arith)
 
-  pub stands-no : (StandsAt ks at x → ⊥) → standsAt ks (length ks) at x ≡ false
-  stands-no n = go (standsAt ks (length ks) at x) refl
-    where
-      go : (r : Bool) → standsAt ks (length ks) at x ≡ r → standsAt ks (length ks) at x ≡ false
-      go true e = absurd (n (yes-stands e))
-      go false e = e
+  -- none is, where none has a first child
+  pub told-none : ((w : ℕ) → w < 8 → firstAt ks (first + w) ≡ 0) → ChildMarks ks first p 0
+  unfolding steps
+  told-none z =
+      record { small = omega arith; marks = λ w h. marked-zero w ∙ sym (leads-none (ks .keys) (firstAt ks (first + w)) (8 * (8 * p + w)) (z w h)) }
 
--- no child of p, where the last key is below
-pub told-past : (ks : List ℕ) (p : ℕ) → getD ks (length ks - 1) 0 < 64 * p → ChildMarks ks p 0
-unfolding reached childSplit
-told-past ks p h =
-    record {
-      small = omega arith;
-      marks = λ w l. marked-zero w ∙ sym (ap (λ (r : Bool). r && standsAt ks (length ks) (childrenAt ks p w) (8 * (8 * p + w))) (lt-leb _ _ h));
-    }
+  pub told-all : (w mask : ℕ) → w ≡ 8 → Filled Steps w mask → ChildMarks ks first p mask
+  told-all w mask e s =
+      let f : Filled Steps 8 mask = subst (λ (n : ℕ). Filled Steps n mask) e s in
+      record { small = f .small; marks = λ i h. decides-is (marked mask i) (steps ks (first + i) (8 * p + i)) (f .marks i h) }
 
--- so far w children of p are told, and the next one's children would stand at the place
-pub record Told (ks : List ℕ) (p w at mask : ℕ) : Type 0 where
-  pub reach : reached ks p ≡ true
-  pub place : at ≡ childrenAt ks p w
-  pub filled : Filled (λ i. childSplit ks p i ≡ true) w mask
-
-module _ (ks : List ℕ) (p : ℕ) where
-  pub told-none : 64 * p ≤ getD ks (length ks - 1) 0 → (at : ℕ) → at ≡ firstFrom ks (length ks) (64 * p) → Told ks p 0 at 0
-  unfolding childrenAt reached
-  told-none h at e = record { reach = le-leb _ _ h; place = e; filled = filled-none (λ i. childSplit ks p i ≡ true) }
-
-  module _ (w at mask : ℕ) (h : w < 8) (s : Told ks p w at mask) where
-    stands-is : (r : Bool) → standsAt ks (length ks) at (64 * p + 8 * w) ≡ r → standsAt ks (length ks) (childrenAt ks p w) (8 * (8 * p + w)) ≡ r
-    stands-is r e = ap₂ (standsAt ks (length ks)) (sym (s .place)) (omega arith) ∙ e
-
-    split-is : (r : Bool) → standsAt ks (length ks) at (64 * p + 8 * w) ≡ r → childSplit ks p w ≡ r
-    unfolding childSplit
-    split-is r e = ap₂ _&&_ (s .reach) (stands-is r e)
-
-    next : (r : Bool) → standsAt ks (length ks) at (64 * p + 8 * w) ≡ r → childrenAt ks p (w + 1) ≡ at + if₀ r 8 0
-    unfolding childrenAt
-    next r e = ap (childrenAt ks p) (add-one w) ∙ ap₂ (λ (n : ℕ) (t : Bool). n + if₀ t 8 0) (sym (s .place)) (stands-is r e)
-
-    pub told-yes : StandsAt ks at (64 * p + 8 * w) → Told ks p (w + 1) (at + 8) (mask + (1 * 2 ^ w) % 2 ^ 64)
-    told-yes st =
-        let e : standsAt ks (length ks) at (64 * p + 8 * w) ≡ true = stands-yes ks at (64 * p + 8 * w) st in
-        record {
-          reach = s .reach;
-          place = sym (next true e);
-          filled = filled-yes (λ i. childSplit ks p i ≡ true) w mask (omega arith) (split-is true e) (s .filled);
-        }
-
-    pub told-no : (StandsAt ks at (64 * p + 8 * w) → ⊥) → Told ks p (w + 1) at mask
-    told-no st =
-        let e : standsAt ks (length ks) at (64 * p + 8 * w) ≡ false = stands-no ks at (64 * p + 8 * w) st in
-        record {
-          reach = s .reach;
-          place = omega (arith, next false e);
-          filled = filled-no (λ i. childSplit ks p i ≡ true) w mask (λ t. true≢false (sym t ∙ split-is false e)) (s .filled);
-        }
-
-    pub told-fits : mask + (1 * 2 ^ w) % 2 ^ 64 < 2 ^ 64
-    told-fits = filled-fits (λ i. childSplit ks p i ≡ true) w mask (omega arith) (s .filled)
-
-  pub told-all : (w at mask : ℕ) → w ≡ 8 → Told ks p w at mask → ChildMarks ks p mask
-  told-all w at mask e s =
-      let f : Filled (λ i. childSplit ks p i ≡ true) 8 mask = subst (λ (n : ℕ). Filled (λ i. childSplit ks p i ≡ true) n mask) e (s .filled) in
-      record { small = f .small; marks = λ i h. decides-is (marked mask i) (childSplit ks p i) (f .marks i h) }
+pub marks-as : {ks : Nodes} {first k j mask : ℕ} → k ≡ j → ChildMarks ks first k mask → ChildMarks ks first j mask
+marks-as {ks} {first} {k} {j} {mask} e m = subst (λ (i : ℕ). ChildMarks ks first i mask) e m
 
 -- ---- the same for each split entry of a block
 
-module _ (ks b : List ℕ) (mask : ℕ) where
+module _ (ks : Nodes) (c : ℕ) (at : List ℕ) (mask : ℕ) where
   pub record Stacked (n below : ℕ) : Type 0 where
     pub small : below < 2 ^ (8 * n)
-    pub marks : (o : ℕ) → o < n → marked mask o ≡ true → (w : ℕ) → w < 8 → marked below (8 * o + w) ≡ childSplit ks (getD b o 0) w
+    pub marks : (o : ℕ) → o < n → marked mask o ≡ true → (w : ℕ) → w < 8 → marked below (8 * o + w) ≡ steps ks (getD at o 0 + w) (8 * sub c o + w)
 
   pub stacked-none : Stacked 0 0
   stacked-none = record { small = omega arith; marks = λ o h. absurd (omega arith) }
@@ -229,27 +177,27 @@ module _ (ks b : List ℕ) (mask : ℕ) where
     wider : 8 + 8 * n ≡ 8 * (n + 1)
     wider = omega arith
 
-    pub stacked-yes : (x : ℕ) → n < 8 → ChildMarks ks (getD b n 0) x → Stacked (n + 1) (below + (x * 2 ^ (8 * n)) % 2 ^ 64)
-    stacked-yes x h c =
-        rw (shift-exact (8 * n) 8 x (omega arith) (c .small))
+    pub stacked-yes : (x : ℕ) → n < 8 → ChildMarks ks (getD at n 0) (sub c n) x → Stacked (n + 1) (below + (x * 2 ^ (8 * n)) % 2 ^ 64)
+    stacked-yes x h cm =
+        rw (shift-exact (8 * n) 8 x (omega arith) (cm .small))
         (record {
-          small = subst (λ (j : ℕ). below + x * 2 ^ (8 * n) < 2 ^ j) wider (put-lt below x (8 * n) (s .small) 8 (c .small));
+          small = subst (λ (j : ℕ). below + x * 2 ^ (8 * n) < 2 ^ j) wider (put-lt below x (8 * n) (s .small) 8 (cm .small));
           marks = λ o h e w l.
               elim (decLt o n) [
                 | yes g ↦ marked-under below x (8 * n) (s .small) (8 * o + w) (omega arith) ∙ s .marks o g e w l
                 | no g ↦
                     let q : n ≡ o = omega arith in
-                    subst (λ (j : ℕ). marked (below + x * 2 ^ (8 * n)) (8 * j + w) ≡ childSplit ks (getD b j 0) w) q
-                    (marked-over below x (8 * n) (s .small) w ∙ c .marks w l)
+                    subst (λ (j : ℕ). marked (below + x * 2 ^ (8 * n)) (8 * j + w) ≡ steps ks (getD at j 0 + w) (8 * sub c j + w)) q
+                    (marked-over below x (8 * n) (s .small) w ∙ cm .marks w l)
               ];
         })
 
-    pub stacked-fits : (x : ℕ) → n < 8 → ChildMarks ks (getD b n 0) x → below + (x * 2 ^ (8 * n)) % 2 ^ 64 < 2 ^ 64
-    stacked-fits x h c =
+    pub stacked-fits : (x : ℕ) → n < 8 → ChildMarks ks (getD at n 0) (sub c n) x → below + (x * 2 ^ (8 * n)) % 2 ^ 64 < 2 ^ 64
+    stacked-fits x h cm =
         omega (
           arith,
-          shift-exact (8 * n) 8 x (omega arith) (c .small),
-          put-lt below x (8 * n) (s .small) 8 (c .small),
+          shift-exact (8 * n) 8 x (omega arith) (cm .small),
+          put-lt below x (8 * n) (s .small) 8 (cm .small),
           pow-mono {i = 8 + 8 * n} {j = 64} (omega arith),
         )
 
@@ -264,19 +212,15 @@ module _ (ks b : List ℕ) (mask : ℕ) where
               ];
         }
 
-  pub stacked-all : (n below : ℕ) → n ≡ 8 → Stacked n below → BelowMarks ks b mask below
+  pub stacked-all : (n below : ℕ) → n ≡ 8 → Stacked n below → BelowMarks ks c at mask below
   stacked-all n below e s o h = s .marks o (omega arith)
 
 -- ---- entries that are no node
 
-pub gaps-all : (b : List ℕ) (n gaps : ℕ) → n ≡ 8 → Filled (λ o. getD b o 0 ≡ 0) n gaps → Gaps b gaps
-gaps-all b n gaps e f =
-    let g : Filled (λ o. getD b o 0 ≡ 0) 8 gaps = subst (λ (m : ℕ). Filled (λ o. getD b o 0 ≡ 0) m gaps) e f in
-    record { small = g .small; marks = λ o h. zero-is (marked gaps o) (getD b o 0) (g .marks o h) }
-  where
-    zero-is : (r : Bool) (x : ℕ) → Decides r (x ≡ 0) → r ≡ eqb x 0
-    zero-is true x d = sym (eq-eqb x 0 d)
-    zero-is false x d = sym (ne-eqb x 0 d)
+pub gaps-lowered : (gaps q n r : ℕ) → n ≡ 8 → Filled (λ o. marked gaps (bitAnd o (7 - q)) ≡ true) n r → LoweredGaps gaps q r
+gaps-lowered gaps q n r e f =
+    let g : Filled (λ o. marked gaps (bitAnd o (7 - q)) ≡ true) 8 r = subst (λ (m : ℕ). Filled (λ o. marked gaps (bitAnd o (7 - q)) ≡ true) m r) e f in
+    record { small = g .small; marks = λ o h. decides-is (marked r o) (marked gaps (bitAnd o (7 - q))) (g .marks o h) }
 
 -- ---- masks in common
 

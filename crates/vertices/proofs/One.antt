@@ -1,12 +1,13 @@
 -- One answer only: two answers of a call that meet its promise are the same, and so are the tables. Of a sound tree both calls have the same. Assumes
 -- nothing.
 use Prim.Native.Nat.{ℕ}
-use mathlib.Core.List.{List}
 use mathlib.Core.Path.{_≡_, sym, ap, ap₂, subst, _∙_}
 use mathlib.Core.Logic.{⊎-elim}
 use lib.ListN.{length}
 use Rattle.morton.proofs.One.{OnlyOne}
 use Rattle.tree.specs.Tree.{Tree, Sound}
+use Rattle.tree.specs.Down.{Nodes}
+use Rattle.tree.proofs.Finding.{nodes}
 use Rattle.geometry.proofs.Listing.{listed-unique}
 use Rattle.vertices.specs.declared.ListAnswer.{ListAnswer}
 use Rattle.vertices.specs.declared.ListAnswer.the-variants as list
@@ -49,10 +50,10 @@ module _ (t : Tree) (start : ℕ) (was : Lists) where
       (a .1)))
 
   -- of a sound tree the list of one who trusts is the same
-  pub list-same : Sound t → (o p : Lists × ListAnswer) → TrustingSays (t .keys) start was (o .0) (o .1) → ListSays t start was (p .0) (p .1) → o ≡ p
+  pub list-same : Sound t → (o p : Lists × ListAnswer) → TrustingSays (nodes t) start was (o .0) (o .1) → ListSays t start was (p .0) (p .1) → o ≡ p
   list-same s o p a b = list-one o p (trusting-list t s start was (o .0) (o .1) a) b
 
-pub list-trusting-one : (ks : List ℕ) (start : ℕ) (was : Lists) → OnlyOne (λ (o : Lists × ListAnswer). TrustingSays ks start was (o .0) (o .1))
+pub list-trusting-one : (ks : Nodes) (start : ℕ) (was : Lists) → OnlyOne (λ (o : Lists × ListAnswer). TrustingSays ks start was (o .0) (o .1))
 list-trusting-one ks start was (left, list.Count n) (right, list.Count m) a b =
     ap₂ (λ (x : Lists) (y : ListAnswer). (x, y)) (a .2 ∙ sym (b .2)) (ap list.Count (a .0 ∙ sym (b .0)))
 list-trusting-one ks start was (left, list.Count n) (right, list.Refused k) a b = absurd (b .1 (subst (λ (i : ℕ). Room start i was) (a .0) (a .1)))
@@ -60,6 +61,6 @@ list-trusting-one ks start was (left, list.Refused k) (right, list.Count n) a b 
 list-trusting-one ks start was (left, list.Refused k) (right, list.Refused j) a b =
     ap₂ (λ (x : Lists) (y : ListAnswer). (x, y)) (a .0 ∙ sym (b .0)) (ap list.Refused (a .2 ∙ sym (b .2)))
 
-pub cells-trusting-one : (ks : List ℕ) (from : ℕ) (was : Cells) → OnlyOne (λ (o : Cells × ℕ). CellsSays ks from was (o .0) (o .1))
+pub cells-trusting-one : (ks : Nodes) (from : ℕ) (was : Cells) → OnlyOne (λ (o : Cells × ℕ). CellsSays ks from was (o .0) (o .1))
 cells-trusting-one ks from was o p a b =
     λ i. (cellsOf ((a .vertices-are ∙ sym (b .vertices-are)) i) ((a .levels-are ∙ sym (b .levels-are)) i) ((a .places-are ∙ sym (b .places-are)) i), (a .count ∙ sym (b .count)) i)

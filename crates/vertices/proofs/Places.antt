@@ -7,72 +7,20 @@ use native.Mathlib.Nat.{div-lt-iff-lt-mul}
 use native.Mathlib.Numerals.{add-one}
 use native.Mathlib.Decide.{decLe, decLt}
 use native.Mathlib.Omega.{arith}
-use lib.Bits.{bitAnd, bitXor}
-use borrow.Author.Tests.{ltb-true, ltb-false}
-use lib.Dec.{ltb}
+use lib.Bits.{bitAnd, bitOr, bitXor, or-add-and, and-le-l, and-comm}
+use borrow.Author.Tests.{ltb-true, ltb-false, eqb-true}
+use lib.Dec.{eqb, ltb}
 use lib.ListN.{length, getD, set, length-append}
 use lib.Seq.{sets}
 use Rattle.morton.specs.Level.{deepest, limit, if₀, Cell}
 use Rattle.morton.proofs.Levels.{eight-pos}
 use Rattle.morton.proofs.Vertices.{up-pow}
-use Rattle.tree.specs.Climb.{halve, firstFrom}
 use Rattle.tree.specs.Tree.{Decides}
-use Rattle.vertices.specs.Walk.{splitAt, entry, lowCorner}
-use Rattle.vertices.specs.Cells.{placeOf, eight}
-use Rattle.vertices.specs.Block.{marked, Here, Stands, Near, loweredPlace}
-use Rattle.vertices.proofs.Offsets.{kept-lt, flip-lt}
-use Rattle.vertices.proofs.Entries.{from, entry-yes, entry-no}
-use Rattle.vertices.proofs.Blocks.{from-is, mark-is, sets-append}
-
--- ---- a search ends in the table, or behind it
-
-halve-le : (f : ℕ) (ks : List ℕ) (k from n : ℕ) → halve f ks k from n ≤ from + n
-unfolding halve
-halve-le zero ks k from n = omega arith
-halve-le (suc f) ks k from zero = omega arith
-halve-le (suc f) ks k from (suc n) =
-    go (ltb (getD ks (from + suc n / 2) 0) k) (halve-le f ks k (from + suc n / 2 + 1) (n - suc n / 2)) (halve-le f ks k from (suc n / 2))
-  where
-    go : (r : Bool) → halve f ks k (from + suc n / 2 + 1) (n - suc n / 2) ≤ from + suc n / 2 + 1 + (n - suc n / 2)
-        → halve f ks k from (suc n / 2) ≤ from + suc n / 2
-        → cond r (halve f ks k (from + suc n / 2 + 1) (n - suc n / 2)) (halve f ks k from (suc n / 2)) ≤ from + suc n
-    go true h l = omega arith
-    go false h l = omega arith
-
-pub first-le : (ks : List ℕ) (k : ℕ) → firstFrom ks (length ks) k ≤ length ks
-unfolding firstFrom
-first-le ks k = omega (arith, halve-le (length ks) ks k 0 (length ks))
-
--- ---- the places of a block's entries
-
--- entry o, as the code finds it
-pub standing : List ℕ → List ℕ → ℕ → ℕ → ℕ
-standing ks b mask o = if₀ (marked mask o) (firstFrom ks (length ks) (8 * getD b o 0)) (placeOf ks (getD b o 0))
-
-module _ (ks b : List ℕ) (mask o : ℕ) where
-  pub standing-yes : marked mask o ≡ true → firstFrom ks (length ks) (8 * getD b o 0) ≡ standing ks b mask o
-  unfolding standing
-  standing-yes e = sym (ap (λ (r : Bool). if₀ r (firstFrom ks (length ks) (8 * getD b o 0)) (placeOf ks (getD b o 0))) e)
-
-  pub standing-no : marked mask o ≡ false → firstFrom ks (length ks) (8 * (getD b o 0 / 8)) + getD b o 0 % 8 ≡ standing ks b mask o
-  unfolding standing placeOf
-  standing-no e = sym (ap (λ (r : Bool). if₀ r (firstFrom ks (length ks) (8 * getD b o 0)) (placeOf ks (getD b o 0))) e)
-
-  pub standing-le : standing ks b mask o ≤ length ks + 7
-  unfolding standing placeOf
-  standing-le = go (marked mask o)
-    where
-      go : (r : Bool) → if₀ r (firstFrom ks (length ks) (8 * getD b o 0)) (firstFrom ks (length ks) (8 * (getD b o 0 / 8)) + getD b o 0 % 8) ≤ length ks + 7
-      go true = omega (arith, first-le ks (8 * getD b o 0))
-      go false = omega (arith, first-le ks (8 * (getD b o 0 / 8)))
-
-pub stands-all : (ks b : List ℕ) (mask : ℕ) (at : List ℕ) → ((o : ℕ) → o < 8 → getD at o 0 ≡ standing ks b mask o) → Stands ks b mask at
-unfolding standing
-stands-all ks b mask at h = record { each = h }
-
-pub stands-near : (ks b : List ℕ) (mask : ℕ) (at : List ℕ) (most : ℕ) → length ks + 7 ≤ most → Stands ks b mask at → Near at most
-unfolding standing
-stands-near ks b mask at most h s = record { each = λ o ho. omega (arith, s .each o ho, standing-le ks b mask o) }
+use Rattle.tree.specs.Down.{Nodes, firstAt}
+use Rattle.vertices.specs.Walk.{lowCorner}
+use Rattle.vertices.specs.Cells.{eight}
+use Rattle.vertices.specs.Block.{marked, loweredPlace, loweredAt}
+use Rattle.vertices.proofs.Blocks.{sets-append}
 
 -- ---- the places of a child's entries
 
@@ -85,37 +33,54 @@ module _ (at : List ℕ) (mask q o : ℕ) where
   unfolding loweredPlace
   place-no e = ap (λ (r : Bool). if₀ r (getD at (bitAnd o (7 - q)) 0 + bitXor q o) (getD at (bitAnd o (7 - q)) 0)) e
 
-place-child : (ks : List ℕ) (p w : ℕ) → w < 8 → firstFrom ks (length ks) (8 * p) + w ≡ placeOf ks (8 * p + w)
-unfolding placeOf
-place-child ks p w h =
-    let d : p ≡ (8 * p + w) / 8 = omega arith in
-    let m : w ≡ (8 * p + w) % 8 = omega arith in
-    ap₂ (λ (x y : ℕ). firstFrom ks (length ks) (8 * x) + y) d m
+-- of the split ones, where their first child stands
+module _ (fs at : List ℕ) (mask child q o : ℕ) where
+  pub at-yes : (p f : ℕ) → p ≡ loweredPlace at mask q o → f ≡ getD fs p 0 → marked child o ≡ true → f ≡ loweredAt fs at mask child q o
+  unfolding loweredAt
+  at-yes p f e g m = g ∙ ap (λ (n : ℕ). getD fs n 0) e ∙ sym (ap (λ (r : Bool). if₀ r (getD fs (loweredPlace at mask q o) 0) (loweredPlace at mask q o)) m)
 
-module _ (ks : List ℕ) (l c : ℕ) (b : List ℕ) (mask : ℕ) (h : Here ks l c b mask) (at : List ℕ) (s : Stands ks b mask at) (q : ℕ) (hq : q < 8) where
-  pub place-is : (o : ℕ) → o < 8 → loweredPlace at mask q o ≡ placeOf ks (entry ks (suc l) (8 * c + q) o)
-  place-is o ho = go (marked mask (bitAnd o (7 - q))) refl
-    where
-      i : ℕ
-      i = bitAnd o (7 - q)
+  pub at-no : (p : ℕ) → p ≡ loweredPlace at mask q o → marked child o ≡ false → p ≡ loweredAt fs at mask child q o
+  unfolding loweredAt
+  at-no p e m = e ∙ sym (ap (λ (r : Bool). if₀ r (getD fs (loweredPlace at mask q o) 0) (loweredPlace at mask q o)) m)
 
-      e : getD b (bitAnd o (7 - q)) 0 ≡ from ks l c q o hq ho
-      e = from-is ks l c b mask h q hq o ho
+-- ---- no first child at eight places
 
-      m : marked mask (bitAnd o (7 - q)) ≡ splitAt ks l (from ks l c q o hq ho)
-      m = mark-is ks l c b mask h q hq o ho
+pub or-none : (a b : ℕ) → bitOr a b ≡ 0 → (a ≡ 0) × (b ≡ 0)
+or-none a b e = (omega (arith, or-add-and a b, and-le-l a b, and-comm a b, and-le-l b a), omega (arith, or-add-and a b, and-le-l a b))
 
-      go : (r : Bool) → marked mask (bitAnd o (7 - q)) ≡ r → loweredPlace at mask q o ≡ placeOf ks (entry ks (suc l) (8 * c + q) o)
-      go true t =
-          place-yes at mask q o t
-          ∙ ap (λ (n : ℕ). n + bitXor q o) (s .each (bitAnd o (7 - q)) (kept-lt o q ho) ∙ ap (λ (r : Bool). if₀ r (firstFrom ks (length ks) (8 * getD b (bitAnd o (7 - q)) 0)) (placeOf ks (getD b (bitAnd o (7 - q)) 0))) t)
-          ∙ ap (λ (n : ℕ). firstFrom ks (length ks) (8 * n) + bitXor q o) e
-          ∙ place-child ks (from ks l c q o hq ho) (bitXor q o) (flip-lt q o hq ho)
-          ∙ ap (placeOf ks) (sym (entry-yes ks l c q o hq ho (sym m ∙ t)))
-      go false t =
-          place-no at mask q o t
-          ∙ (s .each (bitAnd o (7 - q)) (kept-lt o q ho) ∙ ap (λ (r : Bool). if₀ r (firstFrom ks (length ks) (8 * getD b (bitAnd o (7 - q)) 0)) (placeOf ks (getD b (bitAnd o (7 - q)) 0))) t)
-          ∙ ap (placeOf ks) (e ∙ sym (entry-no ks l c q o hq ho (sym m ∙ t)))
+pub eight-none : (f : ℕ → ℕ) → f 0 ≡ 0 → f 1 ≡ 0 → f 2 ≡ 0 → f 3 ≡ 0 → f 4 ≡ 0 → f 5 ≡ 0 → f 6 ≡ 0 → f 7 ≡ 0 → (w : ℕ) → w < 8 → f w ≡ 0
+eight-none f a b c d e g h i zero l = a
+eight-none f a b c d e g h i (suc zero) l = b
+eight-none f a b c d e g h i (suc (suc zero)) l = c
+eight-none f a b c d e g h i (suc (suc (suc zero))) l = d
+eight-none f a b c d e g h i (suc (suc (suc (suc zero)))) l = e
+eight-none f a b c d e g h i (suc (suc (suc (suc (suc zero))))) l = g
+eight-none f a b c d e g h i (suc (suc (suc (suc (suc (suc zero)))))) l = h
+eight-none f a b c d e g h i (suc (suc (suc (suc (suc (suc (suc zero))))))) l = i
+eight-none f a b c d e g h i (suc (suc (suc (suc (suc (suc (suc (suc w)))))))) l = absurd (omega arith)
+
+pub or-eight : (fs : List ℕ) (p : ℕ)
+    → eqb (bitOr (bitOr (bitOr (bitOr (getD fs p 0) (getD fs (p + 1) 0)) (getD fs (p + 2) 0)) (getD fs (p + 3) 0)) (bitOr (bitOr (bitOr (getD fs (p + 4) 0) (getD fs (p + 5) 0)) (getD fs (p + 6) 0)) (getD fs (p + 7) 0))) 0 ≡ true
+    → (w : ℕ) → w < 8 → getD fs (p + w) 0 ≡ 0
+or-eight fs p e =
+    let a = or-none _ _ (eqb-true _ 0 e) in
+    let l3 = or-none _ _ (a .0) in
+    let l2 = or-none _ _ (l3 .0) in
+    let l1 = or-none _ _ (l2 .0) in
+    let h3 = or-none _ _ (a .1) in
+    let h2 = or-none _ _ (h3 .0) in
+    let h1 = or-none _ _ (h2 .0) in
+    let z : p + 0 ≡ p = omega arith in
+    eight-none (λ w. getD fs (p + w) 0) (ap (λ (n : ℕ). getD fs n 0) z ∙ l1 .0) (l1 .1) (l2 .1) (l3 .1) (h1 .0) (h1 .1) (h2 .1) (h3 .1)
+
+-- what the table says, in the walk's words
+pub first-is : (n : Nodes) (p : ℕ) {x : ℕ} → getD (n .firsts) p 0 ≡ x → firstAt n p ≡ x
+unfolding firstAt
+first-is n p e = e
+
+pub is-first : (n : Nodes) (p : ℕ) {x : ℕ} → x ≡ getD (n .firsts) p 0 → x ≡ firstAt n p
+unfolding firstAt
+is-first n p e = e
 
 -- ---- eight places written one by one
 

@@ -12,6 +12,7 @@ use lib.Seq.{getD-append-add}
 use Rattle.morton.specs.Level.{deepest, limit, Cell, level}
 use Rattle.morton.proofs.Levels.{eight-pos}
 use Rattle.tree.specs.Tree.{In, Ascending, Sound, treeOf}
+use Rattle.tree.specs.Down.{Nodes}
 use Rattle.geometry.specs.Listing.{given, GivenAt, Listed}
 use Rattle.tree.proofs.Lists.{in-at, in-head, in-none, in-one, in-left, in-right, in-append, ascending-asc, asc-at, asc-append, asc-length}
 use Rattle.geometry.proofs.Vertex.{vertex-cell}
@@ -20,7 +21,7 @@ use Rattle.vertices.proofs.Sound.{SoundKeys, Block}
 use Rattle.vertices.proofs.Spot.{Leaf, Meets, GivenBy, corner-next, corner-pos, Caught, caught, giver}
 
 -- the listed vertices from lo up to hi, with their levels
-pub record Ranged (ks : List ℕ) (lo hi : ℕ) (vs ls : List ℕ) : Type 0 where
+pub record Ranged (ks : Nodes) (lo hi : ℕ) (vs ls : List ℕ) : Type 0 where
   pub ascending : Ascending vs
   pub between : (x : ℕ) → In x vs → (lo ≤ x) × (x < hi)
   pub paired : length ls ≡ length vs
@@ -30,7 +31,7 @@ pub record Ranged (ks : List ℕ) (lo hi : ℕ) (vs ls : List ℕ) : Type 0 wher
 
 -- ---- two ranges in a row
 
-module _ (ks : List ℕ) (lo mid hi : ℕ) (vs ls us ms : List ℕ) (a : Ranged ks lo mid vs ls) (b : Ranged ks mid hi us ms) (h1 : lo ≤ mid) (h2 : mid ≤ hi) where
+module _ (ks : Nodes) (lo mid hi : ℕ) (vs ls us ms : List ℕ) (a : Ranged ks lo mid vs ls) (b : Ranged ks mid hi us ms) (h1 : lo ≤ mid) (h2 : mid ≤ hi) where
   -- a place of the two is one of the first or one of the second
   data Side (i : ℕ) : Type 0 where
     left : i < length vs → getD (vs ++ us) i 0 ≡ getD vs i 0 → getD (ls ++ ms) i 0 ≡ getD ls i 0 → Side i
@@ -76,11 +77,11 @@ module _ (ks : List ℕ) (lo mid hi : ℕ) (vs ls us ms : List ℕ) (a : Ranged 
       }
 
 -- as many as there are numbers
-pub ranged-length : (ks : List ℕ) (lo hi : ℕ) (vs ls : List ℕ) → lo ≤ hi → Ranged ks lo hi vs ls → length vs + lo ≤ hi
+pub ranged-length : (ks : Nodes) (lo hi : ℕ) (vs ls : List ℕ) → lo ≤ hi → Ranged ks lo hi vs ls → length vs + lo ≤ hi
 ranged-length ks lo hi vs ls h r = asc-length lo hi vs h (ascending-asc lo vs (r .ascending) (λ x m. r .between x m .0)) (λ x m. r .between x m .1)
 
 -- none, where no leaf gives one
-ranged-none : (ks : List ℕ) (lo hi : ℕ) → ((k w : ℕ) → Leaf ks k → w < 8 → lo ≤ given k w → given k w < hi → ⊥) → Ranged ks lo hi [] []
+ranged-none : (ks : Nodes) (lo hi : ℕ) → ((k w : ℕ) → Leaf ks k → w < 8 → lo ≤ given k w → given k w < hi → ⊥) → Ranged ks lo hi [] []
 ranged-none ks lo hi f =
     record {
       ascending = λ i j h l. absurd (omega arith);
@@ -91,12 +92,12 @@ ranged-none ks lo hi f =
       greatest = λ i k w h leaf hw g. absurd (omega arith);
     }
 
-pub ranged-empty : (ks : List ℕ) (lo : ℕ) → Ranged ks lo lo [] []
+pub ranged-empty : (ks : Nodes) (lo : ℕ) → Ranged ks lo lo [] []
 ranged-empty ks lo = ranged-none ks lo lo (λ k w leaf hw l u. omega arith)
 
 -- ---- a cell where no entry is split
 
-module _ (ks : List ℕ) (t : SoundKeys ks) (l c : ℕ) (hl : l ≤ limit) (cc : Cell l c) (blk : Block ks l c)
+module _ (ks : Nodes) (t : SoundKeys ks) (l c : ℕ) (hl : l ≤ limit) (cc : Cell l c) (blk : Block ks l c)
     (still : (o : ℕ) → o < 8 → splitAt ks l (entry ks l c o) ≡ false) where
   corner-some : 1 ≤ lowCorner l c
   corner-some = corner-pos l c (omega (arith, cc .low, eight-pos l))
@@ -128,7 +129,7 @@ module _ (ks : List ℕ) (t : SoundKeys ks) (l c : ℕ) (hl : l ≤ limit) (cc :
 
 -- ---- the whole cube
 
-pub all-listed : (ks : List ℕ) (ds : List Float) (leaves : List ℕ) → Sound (treeOf ks ds leaves) → (vs ls : List ℕ)
+pub all-listed : (ks : Nodes) (ds : List Float) (leaves : List ℕ) → Sound (treeOf (ks .keys) ds leaves (ks .firsts)) → (vs ls : List ℕ)
     → Ranged ks (lowCorner 0 1) (lowCorner 0 2) vs ls → Listed leaves vs ls
 unfolding lowCorner
 all-listed ks ds leaves s vs ls r =

@@ -5,30 +5,41 @@ use mathlib.Core.Bool.{Bool, true, false, _&&_, true≢false}
 use mathlib.Core.List.{List, [], _∷_, _++_, append-nil}
 use native.Mathlib.Nat.{zero-add, zero-div}
 use native.Mathlib.Omega.{arith}
-use lib.Dec.{ltb}
+use lib.Dec.{eqb, ltb}
 use lib.ListN.{length, getD, take, drop, length-drop, drop-of-length-le}
 use lib.Seq.{sets, sets-eq, drop-drop, take-all}
 use borrow.Author.Tests.{ltb-true, leb-true}
 use borrow.Rule.Slice.PartMut.{midOf, putMid}
 use Rattle.morton.specs.Field.{bit, coord, third, weave}
-use Rattle.morton.specs.Level.{limit, Cell}
+use Rattle.morton.specs.Level.{limit, if₀, Cell}
 use Rattle.morton.proofs.Levels.{and-true, eight-pos}
-use Rattle.tree.specs.Climb.{firstFrom, standsAt}
-use Rattle.tree.specs.Tree.{StandsAt}
+use Rattle.tree.specs.Down.{Nodes, firstAt, leads, steps, reach, isSplit, over, placeOver}
 use Rattle.vertices.specs.declared.ListAnswer.{ListAnswer}
 use Rattle.vertices.specs.declared.ListAnswer.the-variants as list
-use Rattle.vertices.specs.Walk.{rootSplit, isSplit, splitAt, near, over, entry, Spot, divided, meets, ending, walked, spotsOf, verticesOf, levelsOf}
+use Rattle.vertices.specs.Walk.{splitAt, near, entry, placeAt, Spot, divided, meets, ending, walked, spotsOf, verticesOf, levelsOf}
 use Rattle.vertices.specs.Listing.{Lists, listsOf, written, Room, TrustingSays}
-use Rattle.vertices.specs.Block.{marked, Here, Laid}
+use Rattle.vertices.specs.Cells.{Cells}
+use Rattle.vertices.specs.Block.{marked, Here, Laid, Stored}
+use Rattle.vertices.proofs.Storing.{stored-none}
 use Rattle.vertices.proofs.Offsets.{Within, no-bits, cube-in, cube-out}
-use Rattle.vertices.proofs.Entries.{split-low, entry-in, entry-out}
-use Rattle.vertices.proofs.Marks.{marked-first, marked-one, marked-zero, stands-yes, stands-no}
-use Rattle.vertices.proofs.Blocks.{none-is, some-if, all-is, walked-end, ending-none, laid-none, vertices-length, levels-length}
+use Rattle.vertices.proofs.Entries.{split-low, split-at, entry-in, entry-out, place-in, place-out}
+use Rattle.vertices.proofs.Marks.{marked-first, marked-one}
+use Rattle.vertices.proofs.Blocks.{none-is, some-if, all-is, walked-end, ending-none, vertices-length, levels-length}
 
-abbrev pub root-block : List ℕ
-root-block = 1 ∷ 0 ∷ 0 ∷ 0 ∷ 0 ∷ 0 ∷ 0 ∷ 0 ∷ []
+-- all but the first are no node
+others : (o : ℕ) → 0 < o → o < 8 → marked 254 o ≡ true
+unfolding marked
+others zero p h = absurd (omega arith)
+others (suc zero) p h = refl
+others (suc (suc zero)) p h = refl
+others (suc (suc (suc zero))) p h = refl
+others (suc (suc (suc (suc zero)))) p h = refl
+others (suc (suc (suc (suc (suc zero))))) p h = refl
+others (suc (suc (suc (suc (suc (suc zero)))))) p h = refl
+others (suc (suc (suc (suc (suc (suc (suc zero))))))) p h = refl
+others (suc (suc (suc (suc (suc (suc (suc (suc o)))))))) p h = absurd (omega arith)
 
-module _ (ks : List ℕ) where
+module _ (ks : Nodes) where
   entry-root : entry ks 0 1 0 ≡ 1
   unfolding near over third weave Within
   entry-root = entry-in ks 0 1 0 (cube-in 0 1 0 (λ a h. omega (arith, zero-div (2 ^ a))))
@@ -40,63 +51,84 @@ module _ (ks : List ℕ) where
       none : (a : ℕ) → coord 0 1 a ≡ 0
       none a = refl
 
-  split-root : splitAt ks 0 (entry ks 0 1 0) ≡ rootSplit ks
-  unfolding splitAt isSplit
-  split-root = ap (splitAt ks 0) entry-root
+  split-root : splitAt ks 0 (entry ks 0 1 0) ≡ steps ks 0 1
+  unfolding isSplit reach
+  split-root = ap (splitAt ks 0) entry-root ∙ split-at ks 0 1 (omega arith)
 
   split-rest : (o : ℕ) → 0 < o → o < 8 → splitAt ks 0 (entry ks 0 1 o) ≡ false
   split-rest o p h = split-low ks 0 (entry ks 0 1 o) (omega (arith, entry-rest o p h))
 
-  root-entries : (o : ℕ) → o < 8 → getD root-block o 0 ≡ entry ks 0 1 o
-  root-entries zero h = sym entry-root
-  root-entries (suc o) h = zeros (suc o) (omega arith) h ∙ sym (entry-rest (suc o) (omega arith) h)
+  -- where they stand
+  place-root : placeAt ks 0 1 0 ≡ 0
+  unfolding near placeOver third weave Within
+  place-root = place-in ks 0 1 0 (cube-in 0 1 0 (λ a h. omega (arith, zero-div (2 ^ a))))
+
+  place-rest : (o : ℕ) → 0 < o → o < 8 → placeAt ks 0 1 o ≡ 0
+  unfolding Within third
+  place-rest o p h = place-out ks 0 1 o (cube-out 0 1 o (λ w. omega (arith, no-bits o h (λ a l. omega (arith, w a l, none a)))))
     where
-      zeros : (o : ℕ) → 0 < o → o < 8 → getD root-block o 0 ≡ 0
-      zeros zero p h = absurd (omega arith)
-      zeros (suc zero) p h = refl
-      zeros (suc (suc zero)) p h = refl
-      zeros (suc (suc (suc zero))) p h = refl
-      zeros (suc (suc (suc (suc zero)))) p h = refl
-      zeros (suc (suc (suc (suc (suc zero))))) p h = refl
-      zeros (suc (suc (suc (suc (suc (suc zero)))))) p h = refl
-      zeros (suc (suc (suc (suc (suc (suc (suc zero))))))) p h = refl
-      zeros (suc (suc (suc (suc (suc (suc (suc (suc o)))))))) p h = absurd (omega arith)
+      none : (a : ℕ) → coord 0 1 a ≡ 0
+      none a = refl
+
+  zeros : (x o : ℕ) → 0 < o → o < 8 → getD (x ∷ 0 ∷ 0 ∷ 0 ∷ 0 ∷ 0 ∷ 0 ∷ 0 ∷ []) o 0 ≡ 0
+  zeros x zero p h = absurd (omega arith)
+  zeros x (suc zero) p h = refl
+  zeros x (suc (suc zero)) p h = refl
+  zeros x (suc (suc (suc zero))) p h = refl
+  zeros x (suc (suc (suc (suc zero)))) p h = refl
+  zeros x (suc (suc (suc (suc (suc zero))))) p h = refl
+  zeros x (suc (suc (suc (suc (suc (suc zero)))))) p h = refl
+  zeros x (suc (suc (suc (suc (suc (suc (suc zero))))))) p h = refl
+  zeros x (suc (suc (suc (suc (suc (suc (suc (suc o)))))))) p h = absurd (omega arith)
 
   meets-full : (l c : ℕ) → meets ks l c ≡ true → (o : ℕ) → o < 8 → 0 < entry ks l c o
   unfolding meets
   meets-full l c m o h = ltb-true 0 _ (all-is (λ o. ltb 0 (entry ks l c o)) 8 (and-true _ _ m .0) o h)
 
-  -- by the place where 8 would stand
-  module _ (p : ℕ) (e : p ≡ firstFrom ks (length ks) 8) where
-    stands-root : (r : Bool) → standsAt ks (length ks) p 8 ≡ r → rootSplit ks ≡ r
-    unfolding rootSplit
-    stands-root r t = ap (λ (n : ℕ). standsAt ks (length ks) n 8) (sym e) ∙ t
+  -- where the root's children stand
+  module _ (p : ℕ) (e : p ≡ getD (ks .firsts) 0 0) where
+    steps-root : (r : Bool) → leads (ks .keys) p 8 ≡ r → steps ks 0 1 ≡ r
+    unfolding steps firstAt
+    steps-root r t = ap (λ (n : ℕ). leads (ks .keys) n 8) (sym e) ∙ t
 
-    pub root-here : StandsAt ks p 8 → Here ks 0 1 root-block 1 × (divided ks 0 1 ≡ true)
-    unfolding divided
+    pub root-here : leads (ks .keys) p 8 ≡ true → Here ks 0 1 (p ∷ 0 ∷ 0 ∷ 0 ∷ 0 ∷ 0 ∷ 0 ∷ 0 ∷ []) 1 254 × (divided ks 0 1 ≡ true)
+    unfolding divided firstAt marked
     root-here s =
-        let r : rootSplit ks ≡ true = stands-root true (stands-yes ks p 8 s) in (
+        let r : steps ks 0 1 ≡ true = steps-root true s in (
           record {
             shallow = omega arith;
             cell = record { low = omega arith; high = omega arith };
-            entries = root-entries;
             small = omega arith;
             marks = marks r;
+            stands = stands;
+            none = record { small = omega arith; marks = gaps };
           },
           some-if (λ o. splitAt ks 0 (entry ks 0 1 o)) 8 0 (omega arith) (split-root ∙ r),
         )
       where
-        marks : rootSplit ks ≡ true → (o : ℕ) → o < 8 → marked 1 o ≡ splitAt ks 0 (entry ks 0 1 o)
+        gaps : (o : ℕ) → o < 8 → marked 254 o ≡ eqb (entry ks 0 1 o) 0
+        gaps zero h = sym (ap (λ (n : ℕ). eqb n 0) entry-root)
+        gaps (suc o) h = others (suc o) (omega arith) h ∙ sym (ap (λ (n : ℕ). eqb n 0) (entry-rest (suc o) (omega arith) h))
+
+        marks : steps ks 0 1 ≡ true → (o : ℕ) → o < 8 → marked 1 o ≡ splitAt ks 0 (entry ks 0 1 o)
         marks r zero h = marked-first ∙ sym (split-root ∙ r)
         marks r (suc o) h = marked-one (suc o) (omega arith) ∙ sym (split-rest (suc o) (omega arith) h)
 
-    pub root-none : (StandsAt ks p 8 → ⊥) → spotsOf ks ≡ []
+        stands : (o : ℕ) → o < 8 → getD (p ∷ 0 ∷ 0 ∷ 0 ∷ 0 ∷ 0 ∷ 0 ∷ 0 ∷ []) o 0 ≡ if₀ (marked 1 o) (firstAt ks (placeAt ks 0 1 o)) (placeAt ks 0 1 o)
+        stands zero h =
+            e ∙ ap (λ (n : ℕ). getD (ks .firsts) n 0) (sym place-root) ∙ sym (ap (λ (r : Bool). if₀ r (firstAt ks (placeAt ks 0 1 0)) (placeAt ks 0 1 0)) marked-first)
+        stands (suc o) h =
+            zeros p (suc o) (omega arith) h
+            ∙ sym (place-rest (suc o) (omega arith) h)
+            ∙ sym (ap (λ (r : Bool). if₀ r (firstAt ks (placeAt ks 0 1 (suc o))) (placeAt ks 0 1 (suc o))) (marked-one (suc o) (omega arith)))
+
+    pub root-none : leads (ks .keys) p 8 ≡ false → spotsOf ks ≡ []
     unfolding divided spotsOf
     root-none n =
-        let r : rootSplit ks ≡ false = stands-root false (stands-no ks p 8 n) in
+        let r : steps ks 0 1 ≡ false = steps-root false n in
         walked-end ks 0 1 limit (none-is (λ o. splitAt ks 0 (entry ks 0 1 o)) 8 (unsplit r)) ∙ ending-none ks 0 1 (alone (meets ks 0 1) refl)
       where
-        unsplit : rootSplit ks ≡ false → (o : ℕ) → o < 8 → splitAt ks 0 (entry ks 0 1 o) ≡ false
+        unsplit : steps ks 0 1 ≡ false → (o : ℕ) → o < 8 → splitAt ks 0 (entry ks 0 1 o) ≡ false
         unsplit r zero h = split-root ∙ r
         unsplit r (suc o) h = split-rest (suc o) (omega arith) h
 
@@ -104,19 +136,19 @@ module _ (ks : List ℕ) where
         alone true m = absurd (omega (arith, meets-full 0 1 m 1 (omega arith), entry-rest 1 (omega arith) (omega arith)))
         alone false m = m
 
-    pub root-alone : (StandsAt ks p 8 → ⊥) → (v l : List ℕ) → Laid (spotsOf ks) 0 0 v l v l
-    root-alone n v l = subst (λ (ss : List Spot). Laid ss 0 0 v l v l) (sym (root-none n)) (laid-none 0 v l)
+    pub root-alone : leads (ks .keys) p 8 ≡ false → (from room : ℕ) (t : Cells) → Stored ks from room (spotsOf ks) 0 0 t t
+    root-alone n from room t = subst (λ (ss : List Spot). Stored ks from room ss 0 0 t t) (sym (root-none n)) (stored-none ks from room 0 t)
 
-  pub root-walked : (r : ℕ) (v0 l0 v1 l1 : List ℕ) → Laid (walked limit ks 0 1) 0 r v0 l0 v1 l1 → Laid (spotsOf ks) 0 r v0 l0 v1 l1
+  pub root-walked : (from room r : ℕ) (t0 t1 : Cells) → Stored ks from room (walked limit ks 0 1) 0 r t0 t1 → Stored ks from room (spotsOf ks) 0 r t0 t1
   unfolding spotsOf
-  root-walked r v0 l0 v1 l1 a = a
+  root-walked from room r t0 t1 a = a
 
 -- ---- the tables of the call
 
-abbrev pub Whole : List ℕ → ℕ → List ℕ → List ℕ → List ℕ → List ℕ → Type 0
+abbrev pub Whole : Nodes → ℕ → List ℕ → List ℕ → List ℕ → List ℕ → Type 0
 Whole ks r v0 l0 v1 l1 = Laid (spotsOf ks) 0 r v0 l0 v1 l1
 
-module _ (ks : List ℕ) where
+module _ (ks : Nodes) where
   count-is : (n : ℕ) (v0 l0 v1 l1 : List ℕ) → Whole ks n v0 l0 v1 l1 → n ≡ length (spotsOf ks)
   count-is n v0 l0 v1 l1 w = w .count ∙ zero-add (length (spotsOf ks))
 

@@ -20,13 +20,16 @@ use Rattle.morton.proofs.Sides.{sub-key}
 use Rattle.morton.proofs.Levels.{cell-level, eight-pos, eight-mono}
 use Rattle.tree.specs.Tree.{Tree, StandsAt, In, NoChild, Sound, treeOf}
 use Rattle.tree.specs.Climb.{ancestor, Deepest}
+use Rattle.tree.specs.Down.{placeOver}
 use Rattle.tree.proofs.Pass.{denied}
+use Rattle.tree.proofs.Finding.{nodes}
 use Rattle.geometry.proofs.Shape.{sound-shape}
 use Rattle.geometry.proofs.Lookup.{none-between, root-leaf}
-use Rattle.vertices.specs.Walk.{near, splitAt, entry, Spot, inTurn, lowCorner, divided, meets, ending, walked, spotsOf, verticesOf, levelsOf}
-use Rattle.vertices.specs.Cells.{since, wanted, placeOf, eight, roundOf, placesOf, Cells, roomOf, CellsSays}
+use Rattle.vertices.specs.Walk.{near, splitAt, entry, placeAt, Spot, inTurn, lowCorner, divided, meets, ending, walked, spotsOf, verticesOf, levelsOf}
+use Rattle.vertices.specs.Cells.{since, wanted, eight, roundOf, placesOf, Cells, roomOf, CellsSays}
 use Rattle.vertices.specs.Listing.{written}
-use Rattle.vertices.proofs.Offsets.{Within, near-cell}
+use Rattle.vertices.proofs.Offsets.{Within, near-cell, cube-in}
+use Rattle.vertices.proofs.Entries.{entry-in, place-in}
 use Rattle.vertices.proofs.Blocks.{some-if, walked-end, walked-on, ending-one, ending-none, vertices-length, levels-length}
 use Rattle.vertices.proofs.Sound.{SoundKeys, Over, Fresh, Block, block-of, fresh-child, over-childless, place-stands}
 use Rattle.vertices.proofs.Spot.{Meets, corner-cell, coord-some}
@@ -85,20 +88,20 @@ abbrev pub EntryAt : Tree → ℕ → ℕ → ℕ → ℕ → Type 0
 EntryAt t L v i p = Deepest t (sideOf L v i) (getD (t .keys) p 0) (getD (t .distances) p nan) (level (sideOf L v i) - level (getD (t .keys) p 0) + 1)
 
 module _ (t : Tree) (S : Sound t) where
-  keys-sound : SoundKeys (t .keys)
+  keys-sound : SoundKeys (nodes t)
   keys-sound = record { distances = t .distances; leaves = t .leaves; sound = S }
 
   -- all eight of them
   Round : Spot → Type 0
-  Round s = (i : ℕ) → i < 8 → EntryAt t (s .level) (s .vertex) i (getD (roundOf (t .keys) s) i 0)
+  Round s = (i : ℕ) → i < 8 → EntryAt t (s .level) (s .vertex) i (getD (roundOf (nodes t) s) i 0)
 
-  module _ (l c : ℕ) (hl : l ≤ limit) (cc : Cell l c) (f : Fresh (t .keys) l c) (still : (o : ℕ) → o < 8 → splitAt (t .keys) l (entry (t .keys) l c o) ≡ false)
-      (m : Meets (t .keys) l c) where
-    blk : Block (t .keys) l c
-    blk = block-of (t .keys) keys-sound l c f
+  module _ (l c : ℕ) (hl : l ≤ limit) (cc : Cell l c) (f : Fresh (nodes t) l c) (still : (o : ℕ) → o < 8 → splitAt (nodes t) l (entry (nodes t) l c o) ≡ false)
+      (m : Meets (nodes t) l c) where
+    blk : Block (nodes t) l c
+    blk = block-of (nodes t) keys-sound l c f
 
     some-coord : (a : ℕ) → a < 3 → 1 ≤ coord l c a
-    some-coord = coord-some (t .keys) keys-sound l c hl cc blk still m
+    some-coord = coord-some (nodes t) keys-sound l c hl cc blk still m
 
     deep : 1 ≤ l
     deep = go l refl
@@ -113,17 +116,17 @@ module _ (t : Tree) (S : Sound t) where
 
     module _ (i : ℕ) (hi : i < 8) where
       node : ℕ
-      node = entry (t .keys) l c i
+      node = entry (nodes t) l c i
 
-      over : Over (t .keys) l (near l c i) node
+      over : Over (nodes t) l (near l c i) node
       unfolding node
       over = blk .over i hi (within i)
 
       childless : NoChild node (t .keys)
       unfolding node
       childless =
-          over-childless (t .keys) keys-sound l (near l c i) (entry (t .keys) l c i) (near-cell l c i) over
-          (denied (splitAt (t .keys) l (entry (t .keys) l c i)) _ (still i hi) (blk .marks i hi))
+          over-childless (nodes t) keys-sound l (near l c i) (entry (nodes t) l c i) (near-cell l c i) over
+          (denied (splitAt (nodes t) l (entry (nodes t) l c i)) _ (still i hi) (blk .marks i hi))
 
       leaf : In node (t .leaves)
       leaf = S .childless-leaves node (over .here) childless
@@ -132,8 +135,8 @@ module _ (t : Tree) (S : Sound t) where
       not-root : node ≡ 1 → ⊥
       not-root e =
           let fine = blk .over (m .fine .0) (m .fine .1) (within (m .fine .0)) in
-          let one : entry (t .keys) l c (m .fine .0) ≡ 1 =
-          root-leaf limit (t .keys) (t .leaves) (sound-shape t S) (entry (t .keys) l c (m .fine .0)) (subst (λ (k : ℕ). In k (t .leaves)) e leaf) (fine .here) in
+          let one : entry (nodes t) l c (m .fine .0) ≡ 1 =
+          root-leaf limit (t .keys) (t .leaves) (sound-shape t S) (entry (nodes t) l c (m .fine .0)) (subst (λ (k : ℕ). In k (t .leaves)) e leaf) (fine .here) in
           omega (arith, m .fine .2, eight-mono {i = 1} {j = l} deep)
 
       side-near : sideOf l (lowCorner l c) i ≡ near l c i
@@ -163,19 +166,21 @@ module _ (t : Tree) (S : Sound t) where
           go zero e = absurd (not-root (omega (arith, ap (λ (j : ℕ). 8 ^ j) e, cell .low, cell .high)))
           go (suc L) e = omega arith
 
-      stands : StandsAt (t .keys) (placeOf (t .keys) node) node
-      unfolding placeOf
-      stands = place-stands (t .keys) keys-sound node (over .here) not-root
+      stands : StandsAt (t .keys) (placeAt (nodes t) l c i) node
+      unfolding node
+      stands =
+          subst (λ (p : ℕ). StandsAt (t .keys) p (entry (nodes t) l c i)) (sym (place-in (nodes t) l c i (cube-in l c i (within i))))
+          (subst (StandsAt (t .keys) (placeOver (nodes t) l (near l c i))) (sym (entry-in (nodes t) l c i (cube-in l c i (within i)))) (place-stands (nodes t) keys-sound l (near l c i) (near-cell l c i)))
 
-      entry-at : EntryAt t l (lowCorner l c) i (placeOf (t .keys) node)
+      entry-at : EntryAt t l (lowCorner l c) i (placeAt (nodes t) l c i)
       entry-at =
-          subst (λ (k : ℕ). Deepest t (sideOf l (lowCorner l c) i) k (getD (t .distances) (placeOf (t .keys) node) nan) (level (sideOf l (lowCorner l c) i) - level k + 1))
+          subst (λ (k : ℕ). Deepest t (sideOf l (lowCorner l c) i) k (getD (t .distances) (placeAt (nodes t) l c i) nan) (level (sideOf l (lowCorner l c) i) - level k + 1))
           (sym (stands .here))
           (record {
             not-root = level-pos;
             not-below = omega (arith, side-level, node-level);
             is-ancestor = sym up;
-            place = placeOf (t .keys) node;
+            place = placeAt (nodes t) l c i;
             present = stands;
             its-distance = refl;
             none-deeper = none-between limit (t .keys) (t .leaves) (sound-shape t S) node leaf (level (sideOf l (lowCorner l c) i)) (sideOf l (lowCorner l c) i) (omega (arith, side-level, node-level)) up;
@@ -191,42 +196,42 @@ module _ (t : Tree) (S : Sound t) where
     unfolding Round roundOf node
     round-here i hi =
         subst (EntryAt t l (lowCorner l c) i)
-        (ap (λ (k : ℕ). placeOf (t .keys) (entry (t .keys) l k i)) (sym (corner-cell l c)) ∙ sym (eight-at (λ o. placeOf (t .keys) (entry (t .keys) l (lowCorner l c / 8 ^ (deepest - l)) o)) i hi))
+        (ap (λ (k : ℕ). placeAt (nodes t) l k i) (sym (corner-cell l c)) ∙ sym (eight-at (λ o. placeAt (nodes t) l (lowCorner l c / 8 ^ (deepest - l)) o) i hi))
         (entry-at i hi)
 
-  rounds-end : (l c : ℕ) → l ≤ limit → Cell l c → Fresh (t .keys) l c → divided (t .keys) l c ≡ false → Each Round (ending (t .keys) l c)
+  rounds-end : (l c : ℕ) → l ≤ limit → Cell l c → Fresh (nodes t) l c → divided (nodes t) l c ≡ false → Each Round (ending (nodes t) l c)
   unfolding divided
-  rounds-end l c hl cc f d = go (meets (t .keys) l c) refl
+  rounds-end l c hl cc f d = go (meets (nodes t) l c) refl
     where
-      still : (o : ℕ) → o < 8 → splitAt (t .keys) l (entry (t .keys) l c o) ≡ false
-      still o ho = no (splitAt (t .keys) l (entry (t .keys) l c o)) refl
+      still : (o : ℕ) → o < 8 → splitAt (nodes t) l (entry (nodes t) l c o) ≡ false
+      still o ho = no (splitAt (nodes t) l (entry (nodes t) l c o)) refl
         where
-          no : (r : Bool) → splitAt (t .keys) l (entry (t .keys) l c o) ≡ r → splitAt (t .keys) l (entry (t .keys) l c o) ≡ false
-          no true e = absurd (true≢false (sym (some-if (λ o. splitAt (t .keys) l (entry (t .keys) l c o)) 8 o ho e) ∙ d))
+          no : (r : Bool) → splitAt (nodes t) l (entry (nodes t) l c o) ≡ r → splitAt (nodes t) l (entry (nodes t) l c o) ≡ false
+          no true e = absurd (true≢false (sym (some-if (λ o. splitAt (nodes t) l (entry (nodes t) l c o)) 8 o ho e) ∙ d))
           no false e = e
 
-      go : (r : Bool) → meets (t .keys) l c ≡ r → Each Round (ending (t .keys) l c)
-      go true e = subst (Each Round) (sym (ending-one (t .keys) l c e)) (round-here l c hl cc f still (meets-is (t .keys) l c e), tt)
-      go false e = subst (Each Round) (sym (ending-none (t .keys) l c e)) tt
+      go : (r : Bool) → meets (nodes t) l c ≡ r → Each Round (ending (nodes t) l c)
+      go true e = subst (Each Round) (sym (ending-one (nodes t) l c e)) (round-here l c hl cc f still (meets-is (nodes t) l c e), tt)
+      go false e = subst (Each Round) (sym (ending-none (nodes t) l c e)) tt
 
-  rounds-walked : (n l c : ℕ) → l + n ≡ limit → Cell l c → Fresh (t .keys) l c → Each Round (walked n (t .keys) l c)
-  rounds-walked zero l c e cc f = go (divided (t .keys) l c) refl
+  rounds-walked : (n l c : ℕ) → l + n ≡ limit → Cell l c → Fresh (nodes t) l c → Each Round (walked n (nodes t) l c)
+  rounds-walked zero l c e cc f = go (divided (nodes t) l c) refl
     where
-      go : (r : Bool) → divided (t .keys) l c ≡ r → Each Round (walked 0 (t .keys) l c)
-      go true d = absurd (omega (arith, divided-lt (t .keys) keys-sound l c f d))
-      go false d = subst (Each Round) (sym (walked-end (t .keys) l c 0 d)) (rounds-end l c (omega arith) cc f d)
+      go : (r : Bool) → divided (nodes t) l c ≡ r → Each Round (walked 0 (nodes t) l c)
+      go true d = absurd (omega (arith, divided-lt (nodes t) keys-sound l c f d))
+      go false d = subst (Each Round) (sym (walked-end (nodes t) l c 0 d)) (rounds-end l c (omega arith) cc f d)
   rounds-walked (suc n) l c e cc f =
-      go (divided (t .keys) l c) refl
-      (λ d q hq. rounds-walked n (suc l) (8 * c + q) (omega arith) (child-cell l c q cc (omega arith)) (fresh-child (t .keys) l c q hq d))
+      go (divided (nodes t) l c) refl
+      (λ d q hq. rounds-walked n (suc l) (8 * c + q) (omega arith) (child-cell l c q cc (omega arith)) (fresh-child (nodes t) l c q hq d))
     where
-      go : (r : Bool) → divided (t .keys) l c ≡ r
-          → (divided (t .keys) l c ≡ true → (q : ℕ) → q < 8 → Each Round (walked n (t .keys) (suc l) (8 * c + q)))
-          → Each Round (walked (suc n) (t .keys) l c)
+      go : (r : Bool) → divided (nodes t) l c ≡ r
+          → (divided (nodes t) l c ≡ true → (q : ℕ) → q < 8 → Each Round (walked n (nodes t) (suc l) (8 * c + q)))
+          → Each Round (walked (suc n) (nodes t) l c)
       go true d each =
-          subst (Each Round) (sym (walked-on (t .keys) l c n d)) (each-turn Round (λ q. walked n (t .keys) (suc l) (8 * c + q)) 8 (each d))
-      go false d each = subst (Each Round) (sym (walked-end (t .keys) l c (suc n) d)) (rounds-end l c (omega arith) cc f d)
+          subst (Each Round) (sym (walked-on (nodes t) l c n d)) (each-turn Round (λ q. walked n (nodes t) (suc l) (8 * c + q)) 8 (each d))
+      go false d each = subst (Each Round) (sym (walked-end (nodes t) l c (suc n) d)) (rounds-end l c (omega arith) cc f d)
 
-  rounds : Each Round (spotsOf (t .keys))
+  rounds : Each Round (spotsOf (nodes t))
   unfolding spotsOf
   rounds =
       rounds-walked limit 0 1 (omega arith) (record { low = omega arith; high = omega arith }) (λ z. absurd (omega arith))
@@ -234,21 +239,21 @@ module _ (t : Tree) (S : Sound t) where
   -- ---- in the tables
 
   -- the eight places of the first vertex, and those of the others
-  places-first : (s : Spot) (ss : List Spot) (i : ℕ) → i < 8 → getD (roundOf (t .keys) s ++ placesOf (t .keys) ss) (8 * 0 + i) 0 ≡ getD (roundOf (t .keys) s) i 0
+  places-first : (s : Spot) (ss : List Spot) (i : ℕ) → i < 8 → getD (roundOf (nodes t) s ++ placesOf (nodes t) ss) (8 * 0 + i) 0 ≡ getD (roundOf (nodes t) s) i 0
   unfolding roundOf
   places-first s ss i h =
       let e : 8 * 0 + i ≡ i = omega arith in
-      ap (λ (k : ℕ). getD (roundOf (t .keys) s ++ placesOf (t .keys) ss) k 0) e ∙ List·getD-append (roundOf (t .keys) s) (placesOf (t .keys) ss) 0 i h
+      ap (λ (k : ℕ). getD (roundOf (nodes t) s ++ placesOf (nodes t) ss) k 0) e ∙ List·getD-append (roundOf (nodes t) s) (placesOf (nodes t) ss) 0 i h
 
-  places-later : (s : Spot) (ss : List Spot) (j i : ℕ) → getD (roundOf (t .keys) s ++ placesOf (t .keys) ss) (8 * suc j + i) 0 ≡ getD (placesOf (t .keys) ss) (8 * j + i) 0
+  places-later : (s : Spot) (ss : List Spot) (j i : ℕ) → getD (roundOf (nodes t) s ++ placesOf (nodes t) ss) (8 * suc j + i) 0 ≡ getD (placesOf (nodes t) ss) (8 * j + i) 0
   unfolding roundOf
   places-later s ss j i =
       let e : 8 * suc j + i ≡ 8 + (8 * j + i) = omega arith in
-      ap (λ (k : ℕ). getD (roundOf (t .keys) s ++ placesOf (t .keys) ss) k 0) e ∙ getD-append-add (roundOf (t .keys) s) (placesOf (t .keys) ss) (8 * j + i) 0
+      ap (λ (k : ℕ). getD (roundOf (nodes t) s ++ placesOf (nodes t) ss) k 0) e ∙ getD-append-add (roundOf (nodes t) s) (placesOf (nodes t) ss) (8 * j + i) 0
 
   -- vertex j of some, with the eight places that go with it
   of-spots : (ss : List Spot) → Each Round ss → (j i : ℕ) → j < length ss → i < 8
-      → EntryAt t (getD (levelsOf ss) j 0) (getD (verticesOf ss) j 0) i (getD (placesOf (t .keys) ss) (8 * j + i) 0)
+      → EntryAt t (getD (levelsOf ss) j 0) (getD (verticesOf ss) j 0) i (getD (placesOf (nodes t) ss) (8 * j + i) 0)
   unfolding levelsOf verticesOf placesOf Round
   of-spots [] a j i hj hi = absurd (omega arith)
   of-spots (s ∷ ss) a zero i hj hi = subst (EntryAt t (s .level) (s .vertex) i) (sym (places-first s ss i hi)) (a .0 i hi)
@@ -259,16 +264,16 @@ module _ (t : Tree) (S : Sound t) where
   written-at u xs j h = List·getD-append xs (drop (0 + length xs) u) 0 j h
 
   -- what is handed out: entry i of the dual cell of vertex j stands at place 8j + i of the table
-  pub cells-right : (from : ℕ) (was left : Cells) (n : ℕ) → CellsSays (t .keys) from was left n → (j i : ℕ) → j < n → i < 8
+  pub cells-right : (from : ℕ) (was left : Cells) (n : ℕ) → CellsSays (nodes t) from was left n → (j i : ℕ) → j < n → i < 8
       → EntryAt t (getD (left .levels) j 0) (getD (left .vertices) j 0) i (getD (left .places) (8 * j + i) 0)
   cells-right from was left n says j i hj hi =
       subst (λ (L : ℕ). EntryAt t L (getD (left .vertices) j 0) i (getD (left .places) (8 * j + i) 0)) (sym level-is)
       (subst (λ (v : ℕ). EntryAt t (getD (levelsOf some) j 0) v i (getD (left .places) (8 * j + i) 0)) (sym vertex-is)
       (subst (EntryAt t (getD (levelsOf some) j 0) (getD (verticesOf some) j 0) i) (sym place-is)
-      (of-spots some (each-wanted Round from (roomOf was) (spotsOf (t .keys)) rounds) j i short hi)))
+      (of-spots some (each-wanted Round from (roomOf was) (spotsOf (nodes t)) rounds) j i short hi)))
     where
       some : List Spot
-      some = wanted from (roomOf was) (spotsOf (t .keys))
+      some = wanted from (roomOf was) (spotsOf (nodes t))
 
       short : j < length some
       short = omega (arith, says .count)
@@ -279,7 +284,7 @@ module _ (t : Tree) (S : Sound t) where
       vertex-is : getD (left .vertices) j 0 ≡ getD (verticesOf some) j 0
       vertex-is = ap (λ (xs : List ℕ). getD xs j 0) (says .vertices-are) ∙ written-at (was .vertices) (verticesOf some) j (omega (arith, vertices-length some, short))
 
-      place-is : getD (left .places) (8 * j + i) 0 ≡ getD (placesOf (t .keys) some) (8 * j + i) 0
+      place-is : getD (left .places) (8 * j + i) 0 ≡ getD (placesOf (nodes t) some) (8 * j + i) 0
       place-is =
           ap (λ (xs : List ℕ). getD xs (8 * j + i) 0) (says .places-are)
-          ∙ written-at (was .places) (placesOf (t .keys) some) (8 * j + i) (omega (arith, places-length (t .keys) some, short))
+          ∙ written-at (was .places) (placesOf (nodes t) some) (8 * j + i) (omega (arith, places-length (nodes t) some, short))

@@ -3,7 +3,6 @@ use Prim.Native.Nat.{ℕ, zero, suc, _+_, _*_, _-_, _/_, _^_, _≤_, _<_}
 use mathlib.Core.Path.{_≡_, refl, sym, _∙_, ap, subst}
 use mathlib.Core.Bool.{true, false}
 use mathlib.Core.Logic.{⊎-elim}
-use mathlib.Core.List.{List}
 use native.Mathlib.Nat.{pow-suc, add-div-right, div-eq-of-lt-le, mul-assoc, mul-div-cancel, mul-pos, add-mul, one-mul}
 use native.Mathlib.Decide.{decLe}
 use native.Mathlib.Omega.{arith}
@@ -17,6 +16,7 @@ use Rattle.morton.proofs.Fields.{bit-le, coord-down, coord-key, coord-lt, coord
 use Rattle.morton.proofs.Vertices.{inside-is, inside-if, vertex-if}
 use Rattle.morton.proofs.Sides.{vertex-inside, vertex-is}
 use Rattle.tree.specs.Tree.{In, NoChild, treeOf}
+use Rattle.tree.specs.Down.{Nodes}
 use Rattle.tree.proofs.Pass.{denied}
 use Rattle.geometry.specs.Listing.{given}
 use Rattle.tree.proofs.Lists.{in-cast}
@@ -30,23 +30,23 @@ use Rattle.vertices.proofs.Sound.{SoundKeys, Over, Block, same-level, o
 -- ---- words
 
 -- a key without children
-pub record Leaf (ks : List ℕ) (k : ℕ) : Type 0 where
-  pub present : In k ks
-  pub childless : NoChild k ks
+pub record Leaf (ks : Nodes) (k : ℕ) : Type 0 where
+  pub present : In k (ks .keys)
+  pub childless : NoChild k (ks .keys)
 
 -- all eight entries are nodes; one of them has level l or more; both
-abbrev pub Full : List ℕ → ℕ → ℕ → Type 0
+abbrev pub Full : Nodes → ℕ → ℕ → Type 0
 Full ks l c = (o : ℕ) → o < 8 → 0 < entry ks l c o
 
-abbrev pub Fine : List ℕ → ℕ → ℕ → Type 0
+abbrev pub Fine : Nodes → ℕ → ℕ → Type 0
 Fine ks l c = (o : ℕ) × (o < 8) × (8 ^ l ≤ entry ks l c o)
 
-pub record Meets (ks : List ℕ) (l c : ℕ) : Type 0 where
+pub record Meets (ks : Nodes) (l c : ℕ) : Type 0 where
   pub full : Full ks l c
   pub fine : Fine ks l c
 
 -- a leaf of level L gives the vertex v
-pub record GivenBy (ks : List ℕ) (v L : ℕ) : Type 0 where
+pub record GivenBy (ks : Nodes) (v L : ℕ) : Type 0 where
   pub leaf : ℕ
   pub corner : ℕ
   pub is-leaf : Leaf ks leaf
@@ -90,20 +90,20 @@ div-same n b j = shr-mono {a = n} {b = n + b} j (omega arith)
 
 -- ---- nodes
 
-module _ (ks : List ℕ) (t : SoundKeys ks) where
-  leaf-cell : (k : ℕ) → In k ks → Cell (level k) k × (level k ≤ limit)
+module _ (ks : Nodes) (t : SoundKeys ks) where
+  leaf-cell : (k : ℕ) → In k (ks .keys) → Cell (level k) k × (level k ≤ limit)
   leaf-cell k m = t .sound .cells k m
 
-  present-pos : (k : ℕ) → In k ks → 1 ≤ k
+  present-pos : (k : ℕ) → In k (ks .keys) → 1 ≤ k
   present-pos k m = cell-pos (level k) k (leaf-cell k m .0)
 
   -- no node lies in one that has no children
-  none-below : (p k j : ℕ) → In p ks → NoChild p ks → In k ks → k / 8 ^ suc j ≡ p → ⊥
+  none-below : (p k j : ℕ) → In p (ks .keys) → NoChild p (ks .keys) → In k (ks .keys) → k / 8 ^ suc j ≡ p → ⊥
   none-below p k j mp n mk e =
-      no-node limit ks (t .leaves) (sound-shape (treeOf ks (t .distances) (t .leaves)) (t .sound)) p (t .sound .childless-leaves p mp n) j k mk e
+      no-node limit (ks .keys) (t .leaves) (sound-shape (treeOf (ks .keys) (t .distances) (t .leaves) (ks .firsts)) (t .sound)) p (t .sound .childless-leaves p mp n) j k mk e
 
   -- the node over a cell that is present is the cell
-  over-present : (l x p : ℕ) → Over ks l x p → In x ks → p ≡ x
+  over-present : (l x p : ℕ) → Over ks l x p → In x (ks .keys) → p ≡ x
   over-present l x p v m = go (v .up) refl
     where
       go : (j : ℕ) → v .up ≡ j → p ≡ x
@@ -136,7 +136,7 @@ module _ (ks : List ℕ) (t : SoundKeys ks) where
       mine : given k w / 8 ^ (deepest - l) ≡ c
       mine = cell-of l c (given k w) lo hi
 
-      still-childless : (o : ℕ) → o < 8 → Within l c o → NoChild (entry ks l c o) ks
+      still-childless : (o : ℕ) → o < 8 → Within l c o → NoChild (entry ks l c o) (ks .keys)
       still-childless o h i = over-childless ks t l (near l c o) (entry ks l c o) (near-cell l c o) (blk .over o h i) (denied (splitAt ks l (entry ks l c o)) _ (still o h) (blk .marks o h))
 
       -- a finer leaf would lie in an entry

@@ -10,15 +10,16 @@ use native.Mathlib.Decide.{decLt}
 use native.Mathlib.Omega.{arith}
 use lib.Dec.{leb}
 use lib.ListN.{length, getD, set, take, length-append}
-use lib.Seq.{sets, sets-eq}
+use lib.Seq.{sets, sets-eq, take-all}
 use borrow.Author.Tests.{le-leb, lt-leb}
 use Rattle.morton.specs.Level.{deepest, limit, Cell}
 use Rattle.morton.proofs.Levels.{eight-pos}
-use Rattle.vertices.specs.Walk.{entry, Spot, inTurn, lowCorner, divided, meets, ending, walked, spotsOf, verticesOf, levelsOf}
-use Rattle.vertices.specs.Cells.{since, wanted, placeOf, eight, roundOf, placesOf, Cells, cellsOf, roomOf, CellsSays}
+use Rattle.tree.specs.Down.{Nodes}
+use Rattle.vertices.specs.Walk.{placeAt, Spot, inTurn, lowCorner, divided, meets, ending, walked, spotsOf, verticesOf, levelsOf}
+use Rattle.vertices.specs.Cells.{since, wanted, eight, roundOf, placesOf, Cells, cellsOf, roomOf, CellsSays}
 use Rattle.vertices.specs.Listing.{written}
-use Rattle.vertices.specs.Block.{loweredPlace, Stored, Roomy, Took, TakeSays, Skipped}
-use Rattle.vertices.proofs.Blocks.{walked-end, walked-on, walked-stop, ending-one, ending-none, vertices-append, levels-append, vertices-length, levels-length, sets-append}
+use Rattle.vertices.specs.Block.{loweredPlace, Laid, Stored, Took, TakeSays, Skipped}
+use Rattle.vertices.proofs.Blocks.{walked-most, walked-end, walked-on, walked-stop, ending-one, ending-none, vertices-append, levels-append, vertices-length, levels-length, sets-append}
 use Rattle.vertices.proofs.Law.{corner-add, corner-last}
 use Rattle.vertices.proofs.Spot.{corner-next}
 
@@ -106,7 +107,7 @@ module _ (from : ℕ) where
       none (s ∷ ss) b = ap (λ (r : Bool). cond r (s ∷ since from ss) (since from ss)) (lt-leb from (s .vertex) (omega (arith, b .0))) ∙ none ss (b .1)
 
   -- those of a cell are less than the next cell's low corner
-  module _ (ks : List ℕ) where
+  module _ (ks : Nodes) where
     below-ending : (l c : ℕ) → Below (lowCorner l (c + 1)) (ending ks l c)
     below-ending l c = go (meets ks l c) refl
       where
@@ -150,8 +151,17 @@ module _ (from : ℕ) where
 
 -- ---- the tables
 
+<<<<<<< HEAD
 module _ (ks : List ℕ) where
   pub places-append : (ss ts : List Spot) → placesOf ks (ss ++ ts) ≡ placesOf ks ss ++ placesOf ks ts
+=======
+-- no table changes its length
+abbrev pub SameSize : Cells → Cells → Type 0
+SameSize was left = (length (left .vertices) ≡ length (was .vertices)) × (length (left .levels) ≡ length (was .levels)) × (length (left .places) ≡ length (was .places))
+
+module _ (ks : Nodes) where
+  places-append : (ss ts : List Spot) → placesOf ks (ss ++ ts) ≡ placesOf ks ss ++ placesOf ks ts
+>>>>>>> 5ea3296 (study)
   unfolding placesOf
   places-append [] ts = refl
   places-append (s ∷ ss) ts =
@@ -181,24 +191,27 @@ module _ (ks : List ℕ) where
     stored-not ss at t e =
         record {
           count = omega (arith, ap length e);
-          vertices-are = sym (ap (λ (xs : List Spot). sets (t .vertices) at (verticesOf xs)) e);
-          levels-are = sym (ap (λ (xs : List Spot). sets (t .levels) at (levelsOf xs)) e);
-          places-are = sym (ap (λ (xs : List Spot). sets (t .places) (8 * at) (placesOf ks xs)) e);
+          vertices-are = λ p q. sym (ap (λ (xs : List Spot). sets (t .vertices) at (verticesOf xs)) e);
+          levels-are = λ p q. sym (ap (λ (xs : List Spot). sets (t .levels) at (levelsOf xs)) e);
+          places-are = λ p. sym (ap (λ (xs : List Spot). sets (t .places) (8 * at) (placesOf ks xs)) e);
         }
 
     pub stored-none : (at : ℕ) (t : Cells) → Stored ks from room [] at at t t
     stored-none at t = stored-not [] at t (wanted-empty from (room - at))
 
-    stored-join : (ss ts : List Spot) (at n r : ℕ) (t0 t1 t2 : Cells) → Stored ks from room ss at n t0 t1 → Stored ks from room ts n r t1 t2
+    stored-join : (ss ts : List Spot) (at n r : ℕ) (t0 t1 t2 : Cells) → SameSize t0 t1 → Stored ks from room ss at n t0 t1 → Stored ks from room ts n r t1 t2
         → Stored ks from room (ss ++ ts) at r t0 t2
-    stored-join ss ts at n r t0 t1 t2 a b =
+    stored-join ss ts at n r t0 t1 t2 k a b =
         record {
           count = omega (arith, a .count, b .count, ap length both, length-append first second);
-          vertices-are = one (verticesOf first) (verticesOf second) (verticesOf (wanted from (room - at) (ss ++ ts))) at n (t0 .vertices) (t1 .vertices) (t2 .vertices) (ap verticesOf both ∙ vertices-append first second) (omega (arith, a .count, vertices-length first)) (a .vertices-are) (b .vertices-are);
-          levels-are = one (levelsOf first) (levelsOf second) (levelsOf (wanted from (room - at) (ss ++ ts))) at n (t0 .levels) (t1 .levels) (t2 .levels) (ap levelsOf both ∙ levels-append first second) (omega (arith, a .count, levels-length first)) (a .levels-are) (b .levels-are);
-          places-are = one (placesOf ks first) (placesOf ks second) (placesOf ks (wanted from (room - at) (ss ++ ts))) (8 * at) (8 * n) (t0 .places) (t1 .places) (t2 .places) (ap (placesOf ks) both ∙ places-append first second) (omega (arith, a .count, places-length first)) (a .places-are) (b .places-are);
+          vertices-are = λ p q. one (verticesOf first) (verticesOf second) (verticesOf (wanted from (room - at) (ss ++ ts))) at n (t0 .vertices) (t1 .vertices) (t2 .vertices) (ap verticesOf both ∙ vertices-append first second) (omega (arith, a .count, vertices-length first)) (a .vertices-are (small p) (small q)) (b .vertices-are (omega (arith, k .0)) (omega (arith, k .1)));
+          levels-are = λ p q. one (levelsOf first) (levelsOf second) (levelsOf (wanted from (room - at) (ss ++ ts))) at n (t0 .levels) (t1 .levels) (t2 .levels) (ap levelsOf both ∙ levels-append first second) (omega (arith, a .count, levels-length first)) (a .levels-are (small p) (small q)) (b .levels-are (omega (arith, k .0)) (omega (arith, k .1)));
+          places-are = λ p. one (placesOf ks first) (placesOf ks second) (placesOf ks (wanted from (room - at) (ss ++ ts))) (8 * at) (8 * n) (t0 .places) (t1 .places) (t2 .places) (ap (placesOf ks) both ∙ places-append first second) (omega (arith, a .count, places-length first)) (a .places-are (omega (arith, b .count))) (b .places-are (omega (arith, k .2)));
         }
       where
+        small : {m : ℕ} → r ≤ m → n ≤ m
+        small h = omega (arith, b .count)
+
         first : List Spot
         first = wanted from (room - at) ss
 
@@ -233,11 +246,11 @@ module _ (ks : List ℕ) where
       unfolding inTurn
       partly-none at t = stored-none at t
 
-      pub partly-more : (q at n r : ℕ) (t0 t1 t2 : Cells) → Partly l c q at n t0 t1 → Grown l c q n r t1 t2 → Partly l c (q + 1) at r t0 t2
+      pub partly-more : (q at n r : ℕ) (t0 t1 t2 : Cells) → SameSize t0 t1 → Partly l c q at n t0 t1 → Grown l c q n r t1 t2 → Partly l c (q + 1) at r t0 t2
       unfolding inTurn
-      partly-more q at n r t0 t1 t2 a b =
+      partly-more q at n r t0 t1 t2 k a b =
           subst (λ (k : ℕ). Partly l c k at r t0 t2) (sym (add-one q))
-          (stored-join (inTurn (λ w. walked (limit - suc l) ks (suc l) (8 * c + w)) q) (walked (limit - suc l) ks (suc l) (8 * c + q)) at n r t0 t1 t2 a b)
+          (stored-join (inTurn (λ w. walked (limit - suc l) ks (suc l) (8 * c + w)) q) (walked (limit - suc l) ks (suc l) (8 * c + q)) at n r t0 t1 t2 k a b)
 
       pub partly-all : (q at n : ℕ) (t0 t1 : Cells) → q ≡ 8 → l < limit → divided ks l c ≡ true → Partly l c q at n t0 t1
           → Stored ks from room (walked (limit - l) ks l c) at n t0 t1
@@ -279,19 +292,19 @@ module _ (ks : List ℕ) where
             (sym (walked-end ks (suc l) (8 * c + q) (limit - suc l) still ∙ ending-one ks (suc l) (8 * c + q) m)) s
 
         -- the places round its low corner
-        round-is : (at : List ℕ) (mask : ℕ) → ((o : ℕ) → o < 8 → loweredPlace at mask q o ≡ placeOf ks (entry ks (suc l) (8 * c + q) o))
+        round-is : (at : List ℕ) (mask : ℕ) → ((o : ℕ) → o < 8 → loweredPlace at mask q o ≡ placeAt ks (suc l) (8 * c + q) o)
             → eight (loweredPlace at mask q) ≡ roundOf ks the-spot
         unfolding roundOf the-spot lowCorner
         round-is at mask h =
-            eight-ext (loweredPlace at mask q) (λ o. placeOf ks (entry ks (suc l) (8 * c + q) o)) h
-            ∙ ap (λ (k : ℕ). eight (λ o. placeOf ks (entry ks (suc l) k o))) (sym (mul-div-cancel (8 * c + q) (eight-pos (deepest - suc l))))
+            eight-ext (loweredPlace at mask q) (λ o. placeAt ks (suc l) (8 * c + q) o) h
+            ∙ ap (λ (k : ℕ). eight (λ o. placeAt ks (suc l) k o)) (sym (mul-div-cancel (8 * c + q) (eight-pos (deepest - suc l))))
           where
             eight-ext : (f g : ℕ → ℕ) → ((o : ℕ) → o < 8 → f o ≡ g o) → eight f ≡ eight g
             eight-ext f g h =
                 λ i. h 0 (omega arith) i ∷ h 1 (omega arith) i ∷ h 2 (omega arith) i ∷ h 3 (omega arith) i ∷ h 4 (omega arith) i ∷ h 5 (omega arith) i ∷ h 6 (omega arith) i ∷ h 7 (omega arith) i ∷ []
 
         pub grown-taken : meets ks (suc l) (8 * c + q) ≡ true → (n r v : ℕ) (at : List ℕ) (mask : ℕ) (t0 t1 : Cells)
-            → ((o : ℕ) → o < 8 → loweredPlace at mask q o ≡ placeOf ks (entry ks (suc l) (8 * c + q) o)) → v ≡ lowCorner (l + 1) (8 * c + q) → n < room
+            → ((o : ℕ) → o < 8 → loweredPlace at mask q o ≡ placeAt ks (suc l) (8 * c + q) o) → v ≡ lowCorner (l + 1) (8 * c + q) → n < room
             → TakeSays from v (l + 1) n (eight (loweredPlace at mask q)) t0 t1 r → Grown l c q n r t0 t1
         unfolding the-spot
         grown-taken m n r v at mask t0 t1 h e hn k = ⊎-elim left right k
@@ -313,12 +326,12 @@ module _ (ks : List ℕ) where
                 taken a w =
                     record {
                       count = omega (arith, a .next, ap length w);
-                      vertices-are = a .vertices-are ∙ ap (set (t0 .vertices) n) low ∙ sym (ap (λ (xs : List Spot). sets (t0 .vertices) n (verticesOf xs)) w ∙ one-vertex the-spot (t0 .vertices) n);
-                      levels-are = a .levels-are ∙ ap (set (t0 .levels) n) (add-one l) ∙ sym (ap (λ (xs : List Spot). sets (t0 .levels) n (levelsOf xs)) w ∙ one-level the-spot (t0 .levels) n);
-                      places-are = a .places-are ∙ ap (sets (t0 .places) (8 * n)) (round-is at mask h) ∙ sym (ap (λ (xs : List Spot). sets (t0 .places) (8 * n) (placesOf ks xs)) w ∙ one-round the-spot (t0 .places) (8 * n));
+                      vertices-are = λ p q. a .put (omega (arith, a .next)) (omega (arith, a .next)) .0 ∙ ap (set (t0 .vertices) n) low ∙ sym (ap (λ (xs : List Spot). sets (t0 .vertices) n (verticesOf xs)) w ∙ one-vertex the-spot (t0 .vertices) n);
+                      levels-are = λ p q. a .put (omega (arith, a .next)) (omega (arith, a .next)) .1 ∙ ap (set (t0 .levels) n) (add-one l) ∙ sym (ap (λ (xs : List Spot). sets (t0 .levels) n (levelsOf xs)) w ∙ one-level the-spot (t0 .levels) n);
+                      places-are = λ p. a .round (omega (arith, a .next)) ∙ ap (sets (t0 .places) (8 * n)) (round-is at mask h) ∙ sym (ap (λ (xs : List Spot). sets (t0 .places) (8 * n) (placesOf ks xs)) w ∙ one-round the-spot (t0 .places) (8 * n));
                     }
 
-module _ (ks : List ℕ) (from room : ℕ) where
+module _ (ks : Nodes) (from room : ℕ) where
   -- the level of the code
   pub grown-on : (l c q n r : ℕ) (t0 t1 : Cells) → Stored ks from room (walked (limit - (l + 1)) ks (l + 1) (8 * c + q)) n r t0 t1 → Grown ks from room l c q n r t0 t1
   grown-on l c q n r t0 t1 a = subst (λ (k : ℕ). Stored ks from room (walked (limit - k) ks k (8 * c + q)) n r t0 t1) (add-one l) a
@@ -336,18 +349,18 @@ pub room-is : (v l p : List ℕ) (a b : ℕ) → a ≡ min (length v) (length l)
 unfolding roomOf
 room-is v l p a b e f = f ∙ ap (λ (k : ℕ). min k (length p / 8)) e
 
-module _ (ks : List ℕ) (from room : ℕ) (was : Cells) (e : room ≡ roomOf was) where
-  pub room-roomy : Roomy room was
+module _ (ks : Nodes) (from room : ℕ) (was : Cells) (e : room ≡ roomOf was) where
+  pub cells-says : (n : ℕ) (left : Cells) → Stored ks from room (spotsOf ks) 0 n was left → CellsSays ks from was left n
   unfolding roomOf
-  room-roomy = record { vertices = omega (arith, e); levels = omega (arith, e); places = omega (arith, e) }
-
-  cells-says : (n : ℕ) (left : Cells) → Stored ks from room (spotsOf ks) 0 n was left → CellsSays ks from was left n
   cells-says n left a =
+      let v : n ≤ length (was .vertices) = omega (arith, a .count, most, e) in
+      let l : n ≤ length (was .levels) = omega (arith, a .count, most, e) in
+      let p : 8 * n ≤ length (was .places) = omega (arith, a .count, most, e) in
       record {
         count = a .count ∙ zero-add (length (wanted from (room - 0) (spotsOf ks))) ∙ ap length same;
-        vertices-are = told verticesOf (was .vertices) (left .vertices) (a .vertices-are) (omega (arith, vertices-length (wanted from (room - 0) (spotsOf ks)), most, room-roomy .vertices));
-        levels-are = told levelsOf (was .levels) (left .levels) (a .levels-are) (omega (arith, levels-length (wanted from (room - 0) (spotsOf ks)), most, room-roomy .levels));
-        places-are = told (placesOf ks) (was .places) (left .places) (a .places-are) (omega (arith, places-length ks (wanted from (room - 0) (spotsOf ks)), most, room-roomy .places));
+        vertices-are = told verticesOf (was .vertices) (left .vertices) (a .vertices-are v l) (omega (arith, a .count, vertices-length (wanted from (room - 0) (spotsOf ks))));
+        levels-are = told levelsOf (was .levels) (left .levels) (a .levels-are v l) (omega (arith, a .count, levels-length (wanted from (room - 0) (spotsOf ks))));
+        places-are = told (placesOf ks) (was .places) (left .places) (a .places-are p) (omega (arith, a .count, places-length ks (wanted from (room - 0) (spotsOf ks))));
       }
     where
       same : wanted from (room - 0) (spotsOf ks) ≡ wanted from (roomOf was) (spotsOf ks)
@@ -363,9 +376,27 @@ module _ (ks : List ℕ) (from room : ℕ) (was : Cells) (e : room ≡ roomOf wa
           ∙ sets-eq (f (wanted from (room - 0) (spotsOf ks))) t 0 (omega arith)
           ∙ ap (λ (ss : List Spot). written t 0 (f ss)) same
 
-  pub cells-walked : (n : ℕ) (left : Cells) → Stored ks from room (walked limit ks 0 1) 0 n was left → CellsSays ks from was left n
-  unfolding spotsOf
-  cells-walked n left a = cells-says n left a
+-- all of them from 0 on
+module _ (ks : Nodes) where
+  pub all-wanted : (ss : List Spot) (room : ℕ) → length ss ≤ room → wanted 0 room ss ≡ ss
+  unfolding wanted since
+  all-wanted ss room h = ap (take room) (all ss) ∙ take-all room ss h
+    where
+      all : (ss : List Spot) → since 0 ss ≡ ss
+      all [] = refl
+      all (s ∷ ss) = ap (λ (r : Bool). cond r (s ∷ since 0 ss) (since 0 ss)) (le-leb 0 (s .vertex) (omega arith)) ∙ ap (λ (xs : List Spot). s ∷ xs) (all ss)
 
-  pub cells-none : spotsOf ks ≡ [] → CellsSays ks from was was 0
-  cells-none z = cells-says 0 was (subst (λ (ss : List Spot). Stored ks from room ss 0 0 was was) (sym z) (stored-none ks from room 0 was))
+  pub all-laid : (room r : ℕ) (t0 t1 : Cells) → 8 ^ limit ≤ room → Stored ks 0 room (spotsOf ks) 0 r t0 t1
+      → Laid (spotsOf ks) 0 r (t0 .vertices) (t0 .levels) (t1 .vertices) (t1 .levels)
+  unfolding spotsOf
+  all-laid room r t0 t1 h a =
+      record {
+        count = a .count ∙ ap (λ (ss : List Spot). 0 + length ss) every;
+        tables = λ p q. (
+          a .vertices-are p q ∙ ap (λ (ss : List Spot). sets (t0 .vertices) 0 (verticesOf ss)) every,
+          a .levels-are p q ∙ ap (λ (ss : List Spot). sets (t0 .levels) 0 (levelsOf ss)) every,
+        );
+      }
+    where
+      every : wanted 0 (room - 0) (walked limit ks 0 1) ≡ walked limit ks 0 1
+      every = all-wanted (walked limit ks 0 1) (room - 0) (omega (arith, walked-most ks limit 0 1))

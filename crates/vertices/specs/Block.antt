@@ -8,59 +8,62 @@ use lib.Bits.{bitAnd, bitXor}
 use lib.Dec.{eqb}
 use lib.ListN.{length, getD, set}
 use lib.Seq.{sets}
-use Rattle.morton.specs.Field.{bit}
+use Rattle.morton.specs.Field.{bit, sub}
 use Rattle.morton.specs.Level.{limit, if₀, Cell}
-use Rattle.tree.specs.Climb.{firstFrom}
-use Rattle.vertices.specs.Walk.{childSplit, splitAt, entry, lowCorner, Spot, verticesOf, levelsOf}
-use Rattle.vertices.specs.Cells.{wanted, placeOf, eight, placesOf, Cells}
+use Rattle.tree.specs.Down.{Nodes, firstAt, steps}
+use Rattle.vertices.specs.Walk.{splitAt, entry, placeAt, lowCorner, Spot, verticesOf, levelsOf}
+use Rattle.vertices.specs.Cells.{wanted, placesOf, Cells}
 
 -- Bit i of a mask is set.
 unfoldable pub marked : ℕ → ℕ → Bool
 marked mask i = eqb (bit i mask) 1
 
--- b and mask are the block of the cell c of level l, which is no deeper than the limit.
-pub record Here (ks : List ℕ) (l c : ℕ) (b : List ℕ) (mask : ℕ) : Type 0 where
+-- Which entries of the cell c of level l are no node.
+pub record Gaps (ks : Nodes) (l c gaps : ℕ) : Type 0 where
+  pub small : gaps < 2 ^ 8
+  pub marks : (o : ℕ) → o < 8 → marked gaps o ≡ eqb (entry ks l c o) 0
+
+-- The block of the cell c of level l, which is no deeper than the limit: where each entry stands, or of a split one its first child; which are split, and
+-- which are no node.
+pub record Here (ks : Nodes) (l c : ℕ) (at : List ℕ) (mask gaps : ℕ) : Type 0 where
   pub shallow : l ≤ limit
   pub cell : Cell l c
-  pub entries : (o : ℕ) → o < 8 → getD b o 0 ≡ entry ks l c o
   pub small : mask < 2 ^ 8
   pub marks : (o : ℕ) → o < 8 → marked mask o ≡ splitAt ks l (entry ks l c o)
+  pub stands : (o : ℕ) → o < 8 → getD at o 0 ≡ if₀ (marked mask o) (firstAt ks (placeAt ks l c o)) (placeAt ks l c o)
+  pub none : Gaps ks l c gaps
 
--- The grandchildren of each marked entry are numbers of 64 bits.
-abbrev pub Small : List ℕ → ℕ → Type 0
-Small b mask = (o : ℕ) → o < 8 → marked mask o ≡ true → getD b o 0 < 2 ^ 57
+-- The grandchildren of each marked entry, which is the cell that lies that way, are numbers of 64 bits.
+abbrev pub Small : ℕ → ℕ → Type 0
+Small c mask = (o : ℕ) → o < 8 → marked mask o ≡ true → sub c o < 2 ^ 57
 
--- Which children of the node p are split.
-pub record ChildMarks (ks : List ℕ) (p mask : ℕ) : Type 0 where
+-- No first child stands at eight places.
+abbrev pub ChildlessSays : List ℕ → ℕ → Bool → Type 0
+ChildlessSays fs place r = r ≡ true → (w : ℕ) → w < 8 → getD fs (place + w) 0 ≡ 0
+
+-- Which children of the node p are split, the first of them standing at a place.
+pub record ChildMarks (ks : Nodes) (first p mask : ℕ) : Type 0 where
   pub small : mask < 2 ^ 8
-  pub marks : (w : ℕ) → w < 8 → marked mask w ≡ childSplit ks p w
+  pub marks : (w : ℕ) → w < 8 → marked mask w ≡ steps ks (first + w) (8 * p + w)
 
 -- The same for each split entry of a block, eight bits for each entry.
-abbrev pub BelowMarks : List ℕ → List ℕ → ℕ → ℕ → Type 0
-BelowMarks ks b mask below =
-    (o : ℕ) → o < 8 → marked mask o ≡ true → (w : ℕ) → w < 8 → marked below (8 * o + w) ≡ childSplit ks (getD b o 0) w
-
--- Which entries are no node.
-pub record Gaps (b : List ℕ) (gaps : ℕ) : Type 0 where
-  pub small : gaps < 2 ^ 8
-  pub marks : (o : ℕ) → o < 8 → marked gaps o ≡ eqb (getD b o 0) 0
+abbrev pub BelowMarks : Nodes → ℕ → List ℕ → ℕ → ℕ → Type 0
+BelowMarks ks c at mask below =
+    (o : ℕ) → o < 8 → marked mask o ≡ true → (w : ℕ) → w < 8 → marked below (8 * o + w) ≡ steps ks (getD at o 0 + w) (8 * sub c o + w)
 
 -- ---- the block of child q
 
 -- Entry o is a child of the entry of the parent's block that lies that way, or that entry itself where it is not split.
-unfoldable pub lowered : List ℕ → ℕ → ℕ → ℕ → ℕ
-lowered b mask q o =
-    if₀ (marked mask (bitAnd o (7 - q))) (8 * getD b (bitAnd o (7 - q)) 0 + bitXor q o) (getD b (bitAnd o (7 - q)) 0)
-
 unfoldable pub loweredMark : ℕ → ℕ → ℕ → ℕ → Bool
 loweredMark mask below q o = marked mask (bitAnd o (7 - q)) && marked below (8 * bitAnd o (7 - q) + bitXor q o)
-
-abbrev pub Lowered : List ℕ → ℕ → ℕ → List ℕ → Type 0
-Lowered b mask q d = (o : ℕ) → o < 8 → getD d o 0 ≡ lowered b mask q o
 
 pub record LoweredMarks (mask below q r : ℕ) : Type 0 where
   pub small : r < 2 ^ 8
   pub marks : (o : ℕ) → o < 8 → marked r o ≡ loweredMark mask below q o
+
+pub record LoweredGaps (gaps q r : ℕ) : Type 0 where
+  pub small : r < 2 ^ 8
+  pub marks : (o : ℕ) → o < 8 → marked r o ≡ marked gaps (bitAnd o (7 - q))
 
 -- The bits of such a number, for child q: the entries' children that its own entries are.
 abbrev pub seenBy : ℕ → ℕ
@@ -92,43 +95,39 @@ pub record Laid (ss : List Spot) (at r : ℕ) (v0 l0 v1 l1 : List ℕ) : Type 0 
 
 -- ---- places
 
--- No entry's children are more than numbers of 64 bits.
-abbrev pub Low : List ℕ → Type 0
-Low b = (o : ℕ) → o < 8 → getD b o 0 < 2 ^ 57
-
--- The place of each entry; of a marked one, that of its first child.
-pub record Stands (ks b : List ℕ) (mask : ℕ) (at : List ℕ) : Type 0 where
-  pub each : (o : ℕ) → o < 8 → getD at o 0 ≡ if₀ (marked mask o) (firstFrom ks (length ks) (8 * getD b o 0)) (placeOf ks (getD b o 0))
-
 -- They lie in reach of the table.
 pub record Near (at : List ℕ) (most : ℕ) : Type 0 where
   pub each : (o : ℕ) → o < 8 → getD at o 0 ≤ most
 
--- The place of entry o of child q, where none of its entries is split.
+-- The place of entry o of child q.
 unfoldable pub loweredPlace : List ℕ → ℕ → ℕ → ℕ → ℕ
 loweredPlace at mask q o =
     if₀ (marked mask (bitAnd o (7 - q))) (getD at (bitAnd o (7 - q)) 0 + bitXor q o) (getD at (bitAnd o (7 - q)) 0)
 
--- These vertices from a number on, as many as have room, stand from place at on, r being the place after them.
-pub record Stored (ks : List ℕ) (from room : ℕ) (ss : List Spot) (at r : ℕ) (was left : Cells) : Type 0 where
-  pub count : r ≡ at + length (wanted from (room - at) ss)
-  pub vertices-are : left .vertices ≡ sets (was .vertices) at (verticesOf (wanted from (room - at) ss))
-  pub levels-are : left .levels ≡ sets (was .levels) at (levelsOf (wanted from (room - at) ss))
-  pub places-are : left .places ≡ sets (was .places) (8 * at) (placesOf ks (wanted from (room - at) ss))
+-- Of those that are split, where their first child stands.
+unfoldable pub loweredAt : List ℕ → List ℕ → ℕ → ℕ → ℕ → ℕ → ℕ
+loweredAt fs at mask child q o = if₀ (marked child o) (getD fs (loweredPlace at mask q o) 0) (loweredPlace at mask q o)
 
--- So many vertices have room.
-pub record Roomy (room : ℕ) (c : Cells) : Type 0 where
-  pub vertices : room ≤ length (c .vertices)
-  pub levels : room ≤ length (c .levels)
-  pub places : 8 * room ≤ length (c .places)
+abbrev pub LoweredAt : List ℕ → List ℕ → ℕ → ℕ → ℕ → List ℕ → Type 0
+LoweredAt fs at mask child q d = (o : ℕ) → o < 8 → getD d o 0 ≡ loweredAt fs at mask child q o
+
+-- Eight places stand at their place, if the table has it.
+abbrev pub RoundSays : List ℕ → ℕ → List ℕ → List ℕ → Type 0
+RoundSays p0 n eight-places p1 = 8 * n + 8 ≤ length p0 → p1 ≡ sets p0 (8 * n) eight-places
+
+-- These vertices from a number on, up to so many, stand from place at on, r being the place after them: each table as far as it has room for them all.
+pub record Stored (ks : Nodes) (from room : ℕ) (ss : List Spot) (at r : ℕ) (was left : Cells) : Type 0 where
+  pub count : r ≡ at + length (wanted from (room - at) ss)
+  pub vertices-are : r ≤ length (was .vertices) → r ≤ length (was .levels) → left .vertices ≡ sets (was .vertices) at (verticesOf (wanted from (room - at) ss))
+  pub levels-are : r ≤ length (was .vertices) → r ≤ length (was .levels) → left .levels ≡ sets (was .levels) at (levelsOf (wanted from (room - at) ss))
+  pub places-are : 8 * r ≤ length (was .places) → left .places ≡ sets (was .places) (8 * at) (placesOf ks (wanted from (room - at) ss))
 
 -- A vertex that is not wanted leaves the tables; another one stands at its place, and so do its level and the places round it.
 pub record Took (from v l m : ℕ) (eight-places : List ℕ) (was left : Cells) (r : ℕ) : Type 0 where
   pub wanted-one : from ≤ v
   pub next : r ≡ m + 1
-  pub vertices-are : left .vertices ≡ set (was .vertices) m v
-  pub levels-are : left .levels ≡ set (was .levels) m l
-  pub places-are : left .places ≡ sets (was .places) (8 * m) eight-places
+  pub put : PutSays (was .vertices) (was .levels) m v l (left .vertices) (left .levels)
+  pub round : RoundSays (was .places) m eight-places (left .places)
 
 abbrev pub TakeSays : ℕ → ℕ → ℕ → ℕ → List ℕ → Cells → Cells → ℕ → Type 0
 TakeSays from v l m eight-places was left r = ((v < from) × (r ≡ m) × (left ≡ was)) ⊎ Took from v l m eight-places was left r

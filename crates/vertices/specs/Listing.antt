@@ -5,6 +5,7 @@ use mathlib.Core.Logic.{_⊎_}
 use mathlib.Core.List.{List, _++_}
 use lib.ListN.{length, take, drop}
 use Rattle.tree.specs.Tree.{Tree, Sound}
+use Rattle.tree.specs.Down.{Nodes}
 use Rattle.geometry.specs.Listing.{Listed}
 use Rattle.vertices.specs.declared.ListAnswer.{ListAnswer}
 use Rattle.vertices.specs.declared.ListAnswer.the-variants.{Count, Refused}
@@ -50,10 +51,10 @@ ListSays t start was left (Count n) = Sound t × Wrote (t .leaves) start n was l
 ListSays t start was left (Refused k) =
     (left ≡ was) × (((Sound t → ⊥) × (k ≡ 11)) ⊎ (Sound t × Short (t .leaves) start was × (k ≡ 12)))
 
--- ---- the same on any table of keys at all, where no tree need be sound
+-- ---- the same on any tables at all, where no tree need be sound
 
 -- The vertices that the walk finds stand from the start place on. Refusal 12.
-abbrev pub TrustingSays : List ℕ → ℕ → Lists → Lists → ListAnswer → Type 0
+abbrev pub TrustingSays : Nodes → ℕ → Lists → Lists → ListAnswer → Type 0
 TrustingSays ks start was left (Count n) =
     (n ≡ length (spotsOf ks)) × Room start n was
     × (left ≡ listsOf (written (was .vertices) start (verticesOf (spotsOf ks))) (written (was .levels) start (levelsOf (spotsOf ks))))

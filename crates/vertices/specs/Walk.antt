@@ -1,39 +1,15 @@
--- The walk over a tree's cells that finds its vertices, on any table of keys at all: no tree need be sound. Assumes nothing.
-use Prim.Native.Nat.{ℕ, zero, suc, _+_, _*_, _-_, _/_, _%_, _^_}
+-- The walk over a tree's cells that finds its vertices, on any tables at all: no tree need be sound. Assumes nothing.
+use Prim.Native.Nat.{ℕ, zero, suc, _+_, _*_, _-_, _^_}
 use mathlib.Core.Bool.{Bool, true, false, cond, _&&_, _||_}
 use mathlib.Core.List.{List, [], _∷_, _++_}
-use lib.Dec.{eqb, leb, ltb}
-use lib.ListN.{length, getD}
+use lib.Dec.{leb, ltb}
 use Rattle.morton.specs.Field.{bit, coord, key}
 use Rattle.morton.specs.Level.{deepest, limit, if₀}
-use Rattle.tree.specs.Climb.{firstFrom, standsAt}
+use Rattle.tree.specs.Down.{Nodes, isSplit, over, placeOver}
 
--- ---- which nodes are split
-
--- Where the children of child w of the node p would stand: the search for the first child's children ends at the first that there are, and each child
--- with children takes eight places.
-unfoldable pub childrenAt : List ℕ → ℕ → ℕ → ℕ
-childrenAt ks p zero = firstFrom ks (length ks) (64 * p)
-childrenAt ks p (suc w) =
-    childrenAt ks p w + if₀ (standsAt ks (length ks) (childrenAt ks p w) (8 * (8 * p + w))) 8 0
-
--- The last key is no less than the first of them could be.
-unfoldable pub reached : List ℕ → ℕ → Bool
-reached ks p = leb (64 * p) (getD ks (length ks - 1) 0)
-
--- They stand there.
-unfoldable pub childSplit : List ℕ → ℕ → ℕ → Bool
-childSplit ks p w = reached ks p && standsAt ks (length ks) (childrenAt ks p w) (8 * (8 * p + w))
-
-unfoldable pub rootSplit : List ℕ → Bool
-rootSplit ks = standsAt ks (length ks) (firstFrom ks (length ks) 8) 8
-
-unfoldable pub isSplit : List ℕ → ℕ → Bool
-isSplit ks k = cond (eqb k 1) (rootSplit ks) (childSplit ks (k / 8) (k % 8))
-
--- p has level l or more, and is split.
-unfoldable pub splitAt : List ℕ → ℕ → ℕ → Bool
-splitAt ks l p = leb (8 ^ l) p && isSplit ks p
+-- p has level l, and is a split node.
+unfoldable pub splitAt : Nodes → ℕ → ℕ → Bool
+splitAt n l p = leb (8 ^ l) p && isSplit n l p
 
 -- ---- the nodes round the low corner of a cell
 
@@ -45,14 +21,13 @@ near l c o = key l (λ a. coord l c a - bit a o)
 unfoldable pub inCube : ℕ → ℕ → ℕ → Bool
 inCube l c o = leb (bit 0 o) (coord l c 0) && (leb (bit 1 o) (coord l c 1) && leb (bit 2 o) (coord l c 2))
 
--- The node over the cell x of level l: x itself if its parent is a split node, else the node over the parent.
-unfoldable pub over : List ℕ → ℕ → ℕ → ℕ
-over ks zero x = x
-over ks (suc l) x = if₀ (splitAt ks l (over ks l (x / 8))) x (over ks l (x / 8))
-
 -- Entry o of the cell c: the node over the cell that lies o lower, or 0 outside the cube.
-unfoldable pub entry : List ℕ → ℕ → ℕ → ℕ → ℕ
-entry ks l c o = if₀ (inCube l c o) (over ks l (near l c o)) 0
+unfoldable pub entry : Nodes → ℕ → ℕ → ℕ → ℕ
+entry n l c o = if₀ (inCube l c o) (over n l (near l c o)) 0
+
+-- And its place.
+unfoldable pub placeAt : Nodes → ℕ → ℕ → ℕ → ℕ
+placeAt n l c o = if₀ (inCube l c o) (placeOver n l (near l c o)) 0
 
 -- ---- the walk
 
@@ -80,25 +55,25 @@ unfoldable pub lowCorner : ℕ → ℕ → ℕ
 lowCorner l c = c * 8 ^ (deepest - l)
 
 -- Some entry of a cell is split.
-unfoldable pub divided : List ℕ → ℕ → ℕ → Bool
-divided ks l c = some (λ o. splitAt ks l (entry ks l c o)) 8
+unfoldable pub divided : Nodes → ℕ → ℕ → Bool
+divided n l c = some (λ o. splitAt n l (entry n l c o)) 8
 
 -- All entries are nodes, and one has the cell's own level.
-unfoldable pub meets : List ℕ → ℕ → ℕ → Bool
-meets ks l c = all (λ o. ltb 0 (entry ks l c o)) 8 && some (λ o. leb (8 ^ l) (entry ks l c o)) 8
+unfoldable pub meets : Nodes → ℕ → ℕ → Bool
+meets n l c = all (λ o. ltb 0 (entry n l c o)) 8 && some (λ o. leb (8 ^ l) (entry n l c o)) 8
 
 -- Where no entry is split the walk ends: the cell's low corner is listed, or nothing is.
-unfoldable pub ending : List ℕ → ℕ → ℕ → List Spot
-ending ks l c = cond (meets ks l c) (record { vertex = lowCorner l c; level = l } ∷ []) []
+unfoldable pub ending : Nodes → ℕ → ℕ → List Spot
+ending n l c = cond (meets n l c) (record { vertex = lowCorner l c; level = l } ∷ []) []
 
 -- Else it goes into the cell's children, and so many levels down.
-unfoldable pub walked : ℕ → List ℕ → ℕ → ℕ → List Spot
-walked zero ks l c = cond (divided ks l c) [] (ending ks l c)
-walked (suc levels) ks l c = cond (divided ks l c) (inTurn (λ q. walked levels ks (suc l) (8 * c + q)) 8) (ending ks l c)
+unfoldable pub walked : ℕ → Nodes → ℕ → ℕ → List Spot
+walked zero n l c = cond (divided n l c) [] (ending n l c)
+walked (suc levels) n l c = cond (divided n l c) (inTurn (λ q. walked levels n (suc l) (8 * c + q)) 8) (ending n l c)
 
 -- From the root down to the limit.
-unfoldable pub spotsOf : List ℕ → List Spot
-spotsOf ks = walked limit ks 0 1
+unfoldable pub spotsOf : Nodes → List Spot
+spotsOf n = walked limit n 0 1
 
 unfoldable pub verticesOf : List Spot → List ℕ
 verticesOf [] = []

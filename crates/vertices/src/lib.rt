@@ -1,15 +1,18 @@
 // The vertices of a finished tree. From `compute_primal_vertices` in src/linear_hashed_marching_cubes.rs of isosurface 0.0.4.
+use morton::Key;
 ghost use mathlib.Core.Path.{_≡_};
 ghost use mathlib.Core.Bool.{true, false};
 ghost use Prim.Native.Nat.{_+_, _-_, _*_, _/_, _^_, _<_, _≤_, min};
-ghost use lib.ListN.{length, getD};
+ghost use lib.ListN.{length};
 ghost use Rattle.morton.specs.Level.{limit, Cell};
+ghost use Rattle.morton.specs.Field.{sub};
 ghost use Rattle.tree.specs.Tree.{treeOf, Decides};
 ghost use Rattle.vertices.specs.Walk.{divided, lowCorner, walked, spotsOf};
 ghost use lib.Seq.{sets};
 ghost use Rattle.vertices.specs.Listing.{listsOf, ListSays, TrustingSays};
 ghost use Rattle.vertices.specs.Cells.{eight, cellsOf, CellsSays};
-ghost use Rattle.vertices.specs.Block.{seenBy, keptBy, marked, Here, Small, ChildMarks, BelowMarks, Gaps, SeenSays, Lowered, LoweredMarks, Touched, PutSays, Laid, Low, Stands, Near, loweredPlace, Stored, Roomy, TakeSays, Skipped};
+ghost use Rattle.tree.specs.Down.{nodesOf};
+ghost use Rattle.vertices.specs.Block.{seenBy, keptBy, marked, Here, Small, ChildlessSays, ChildMarks, BelowMarks, SeenSays, LoweredMarks, LoweredGaps, Touched, PutSays, RoundSays, Laid, Near, loweredPlace, LoweredAt, Stored, TakeSays, Skipped};
 
 // How many vertices there are, or the number of the refusal.
 pub enum ListAnswer {
@@ -29,33 +32,33 @@ fn marked(mask: u64, i: usize) -> bool
     (mask >> i) % 2 == 1
 }
 
-// The last key; 0 where there is none.
-fn last_of(keys: &[u64]) -> u64
-    ensures { λ r. ⌜ r ≡ getD (now (keys .entry)) (length (now (keys .entry)) - 1) 0 ⌝ }
+// Whether no first child stands at eight places from one on: they are read all at once, so that most split nodes, whose children are leaves, cost little.
+fn childless(firsts: &[u16], place: usize) -> bool
+    requires { ⌜ place ≤ 2 ^ 62 ⌝ }
+    ensures { λ r. ⌜ ChildlessSays (now (firsts .entry)) place r ⌝ }
 {
-    let n = keys.len();
-    if n == 0 {
-        return 0;
+    if firsts.len() < place + 8 {
+        return false;
     }
-    keys[n - 1]
+    let low = firsts[place] | firsts[place + 1] | firsts[place + 2] | firsts[place + 3];
+    let high = firsts[place + 4] | firsts[place + 5] | firsts[place + 6] | firsts[place + 7];
+    low | high == 0
 }
 
-// Which children of a node are split themselves. The children of those follow one another, so one search is enough, and none where the last key is
-// less than they are: so it is for the deepest split nodes, which are most.
-fn split_children(keys: &[u64], node: u64) -> u64
-    requires { ⌜ node < 2 ^ 57 ⌝ }
-    ensures { λ r. ⌜ ChildMarks (now (keys .entry)) node r ⌝ }
+// Which children of a node are split themselves, the first of them standing at a place.
+fn split_children(keys: &[u64], firsts: &[u16], first: usize, node: u64) -> u64
+    requires { ⌜ (first ≤ 2 ^ 62) × (node < 2 ^ 57) ⌝ }
+    ensures { λ r. ⌜ ChildMarks (nodesOf (now (keys .entry)) (now (firsts .entry))) first node r ⌝ }
 {
-    if last_of(keys) < 64 * node {
+    if childless(firsts, first) {
         return 0;
     }
-    let mut at = tree::first_from(keys, 64 * node);
     let mut mask = 0;
     let mut w: usize = 0;
     while w < 8 {
-        if tree::stands(keys, at, 64 * node + 8 * w as u64) {
+        let below = tree::first_at(firsts, first + w);
+        if tree::leads(keys, below, 64 * node + 8 * w as u64) {
             mask += 1 << w;
-            at += 8;
             w += 1;
         } else {
             w += 1;
@@ -64,16 +67,26 @@ fn split_children(keys: &[u64], node: u64) -> u64
     mask
 }
 
-// The same for each split entry of a block, eight bits for each entry.
-fn split_below(keys: &[u64], block: [u64; 8], mask: u64) -> u64
-    requires { ⌜ Small block mask ⌝ }
-    ensures { λ r. ⌜ BelowMarks (now (keys .entry)) block mask r ⌝ }
+// The cell that lies o lower.
+fn lower_cell(cell: u64, o: usize) -> u64
+    ensures { λ r. ⌜ r ≡ sub cell o ⌝ }
+{
+    let from = Key { code: cell };
+    let by = Key { code: o as u64 };
+    let key = from.sub(by);
+    key.code
+}
+
+// The same for each split entry of a block, eight bits for each entry: it is the cell that lies that way.
+fn split_below(keys: &[u64], firsts: &[u16], cell: u64, at: [usize; 8], mask: u64) -> u64
+    requires { ⌜ Small cell mask × Near at (2 ^ 62) ⌝ }
+    ensures { λ r. ⌜ BelowMarks (nodesOf (now (keys .entry)) (now (firsts .entry))) cell at mask r ⌝ }
 {
     let mut below = 0;
     let mut o: usize = 0;
     while o < 8 {
         if marked(mask, o) {
-            below += split_children(keys, block[o]) << (8 * o);
+            below += split_children(keys, firsts, at[o], lower_cell(cell, o)) << (8 * o);
             o += 1;
         } else {
             o += 1;
@@ -82,38 +95,18 @@ fn split_below(keys: &[u64], block: [u64; 8], mask: u64) -> u64
     below
 }
 
-// Which entries are no node.
-fn gaps_of(block: [u64; 8]) -> u64
-    ensures { λ r. ⌜ Gaps block r ⌝ }
-{
-    let mut gaps = 0;
-    let mut o: usize = 0;
-    while o < 8 {
-        if block[o] == 0 {
-            gaps += 1 << o;
-            o += 1;
-        } else {
-            o += 1;
-        }
-    }
-    gaps
-}
-
-// The block of child q.
-fn lower(block: [u64; 8], mask: u64, q: usize) -> [u64; 8]
-    requires { ⌜ Small block mask ⌝ }
+// Which entries of child q are no node.
+fn lower_gaps(gaps: u64, q: usize) -> u64
     requires { ⌜ q < 8 ⌝ }
-    ensures { λ r. ⌜ Lowered block mask q r ⌝ }
+    ensures { λ r. ⌜ LoweredGaps gaps q r ⌝ }
 {
-    let mut out = [0u64; 8];
+    let mut out = 0;
     let mut o: usize = 0;
     while o < 8 {
-        let i = o & (7 - q);
-        if marked(mask, i) {
-            out[o] = 8 * block[i] + (q ^ o) as u64;
+        if marked(gaps, o & (7 - q)) {
+            out += 1 << o;
             o += 1;
         } else {
-            out[o] = block[i];
             o += 1;
         }
     }
@@ -225,70 +218,6 @@ fn put(vertices: &mut [u64], levels: &mut [u8], at: usize, vertex: u64, level: u
     }
 }
 
-// Writes the listed vertices of a divided cell from place at on, as far as both tables go; the place after the last, had they room.
-fn walk(
-    keys: &[u64],
-    level: u8,
-    cell: u64,
-    block: [u64; 8],
-    mask: u64,
-    vertices: &mut [u64],
-    levels: &mut [u8],
-    at: usize,
-) -> usize
-    requires { ⌜ Here (now keys) level cell block mask ⌝ }
-    requires { ⌜ divided (now keys) level cell ≡ true ⌝ }
-    requires { ⌜ at + 8 ^ (limit - level) < 2 ^ 64 ⌝ }
-    ensures { λ r. ⌜ Laid (walked (limit - level) (now (keys .entry)) level cell) at r (now (vertices .entry)) (now (levels .entry)) (now (vertices .exit)) (now (levels .exit)) ⌝ }
-{
-    if level as u32 >= morton::LIMIT {
-        return at;
-    }
-    let below = split_below(keys, block, mask);
-    let gaps = gaps_of(block);
-    let mut n = at;
-    let mut q: usize = 0;
-    while q < 8 {
-        let child_mask = lower_mask(mask, below, q);
-        if child_mask == 0 {
-            if touched(gaps, mask, q) {
-                let vertex = low_corner(level + 1, 8 * cell + q as u64);
-                put(vertices, levels, n, vertex, level + 1);
-                n += 1;
-                q += 1;
-            } else {
-                q += 1;
-            }
-        } else {
-            let child = lower(block, mask, q);
-            n = walk(
-                keys,
-                level + 1,
-                8 * cell + q as u64,
-                child,
-                child_mask,
-                vertices,
-                levels,
-                n,
-            );
-            q += 1;
-        }
-    }
-    n
-}
-
-// Lists the whole tree from the tables' first place on; the number of its vertices.
-fn whole(keys: &[u64], vertices: &mut [u64], levels: &mut [u8]) -> usize
-    ensures { λ r. ⌜ Laid (spotsOf (now (keys .entry))) 0 r (now (vertices .entry)) (now (levels .entry)) (now (vertices .exit)) (now (levels .exit)) ⌝ }
-{
-    let root = [1, 0, 0, 0, 0, 0, 0, 0];
-    let at = tree::first_from(keys, 8);
-    if tree::stands(keys, at, 8) {
-        return walk(keys, 0, 1, root, 1, vertices, levels, 0);
-    }
-    0
-}
-
 // Whether n places from a start place on lie in a table.
 fn has_room(len: usize, start: usize, n: usize) -> bool
     ensures { λ r. ⌜ Decides r (start + n ≤ len) ⌝ }
@@ -302,67 +231,19 @@ fn has_room(len: usize, start: usize, n: usize) -> bool
     true
 }
 
-// The list of a tree's vertices, written from a start place on, for one who knows that the tree is sound; of other tables, what the same walk comes
-// to. They are counted first, into tables that don't leave the call.
-pub fn list_trusting(
-    keys: &[u64],
-    start: usize,
-    vertices: &mut [u64],
-    levels: &mut [u8],
-) -> ListAnswer
-    ensures { λ r. ⌜ TrustingSays (now (keys .entry)) start (listsOf (now (vertices .entry)) (now (levels .entry))) (listsOf (now (vertices .exit)) (now (levels .exit))) r ⌝ }
+// The place of entry o of child q.
+fn lower_place(at: [usize; 8], mask: u64, q: usize, o: usize) -> usize
+    requires { ⌜ (q < 8) × (o < 8) × Near at (2 ^ 62) ⌝ }
+    ensures { λ r. ⌜ r ≡ loweredPlace at mask q o ⌝ }
 {
-    let mut no_vertices = [0u64; 1];
-    let mut no_levels = [0u8; 1];
-    let n = whole(keys, &mut no_vertices, &mut no_levels);
-    if !has_room(vertices.len(), start, n) {
-        return ListAnswer::Refused(12);
+    let i = o & (7 - q);
+    if marked(mask, i) {
+        return at[i] + (q ^ o);
     }
-    if !has_room(levels.len(), start, n) {
-        return ListAnswer::Refused(12);
-    }
-    let m = whole(keys, &mut vertices[start..], &mut levels[start..]);
-    ListAnswer::Count(m)
+    at[i]
 }
 
-// The list of a sound tree's vertices, written from a start place on.
-pub fn list(
-    keys: &[u64],
-    distances: &[f32],
-    leaves: &[u64],
-    start: usize,
-    vertices: &mut [u64],
-    levels: &mut [u8],
-) -> ListAnswer
-    ensures { λ r. ⌜ ListSays (treeOf (now (keys .entry)) (now (distances .entry)) (now (leaves .entry))) start (listsOf (now (vertices .entry)) (now (levels .entry))) (listsOf (now (vertices .exit)) (now (levels .exit))) r ⌝ }
-{
-    if !tree::sound(keys, distances, leaves) {
-        return ListAnswer::Refused(11);
-    }
-    list_trusting(keys, start, vertices, levels)
-}
-
-// The place of each entry, 0 where it is no node; of a marked one, that of its first child. A node stands behind its first sibling, by its number.
-fn places_of(keys: &[u64], block: [u64; 8], mask: u64) -> [usize; 8]
-    requires { ⌜ Low block ⌝ }
-    ensures { λ r. ⌜ Stands (now (keys .entry)) block mask r ⌝ }
-{
-    let mut out = [0usize; 8];
-    let mut o: usize = 0;
-    while o < 8 {
-        let k = block[o];
-        if marked(mask, o) {
-            out[o] = tree::first_from(keys, 8 * k);
-            o += 1;
-        } else {
-            out[o] = tree::first_from(keys, 8 * (k / 8)) + (k % 8) as usize;
-            o += 1;
-        }
-    }
-    out
-}
-
-// Writes the places of child q's entries, none of which is split, for the vertex at a place.
+// Writes the places of child q's entries, for the vertex at a place.
 fn put_places(places: &mut [usize], n: usize, at: [usize; 8], mask: u64, q: usize)
     requires { ⌜ (q < 8) × (8 * n + 8 ≤ length (now places)) ⌝ }
     requires { ⌜ Near at (2 ^ 62) ⌝ }
@@ -370,14 +251,18 @@ fn put_places(places: &mut [usize], n: usize, at: [usize; 8], mask: u64, q: usiz
 {
     let mut o: usize = 0;
     while o < 8 {
-        let i = o & (7 - q);
-        if marked(mask, i) {
-            places[8 * n + o] = at[i] + (q ^ o);
-            o += 1;
-        } else {
-            places[8 * n + o] = at[i];
-            o += 1;
-        }
+        places[8 * n + o] = lower_place(at, mask, q, o);
+        o += 1;
+    }
+}
+
+// The same if the table has room for them.
+fn put_round(places: &mut [usize], n: usize, at: [usize; 8], mask: u64, q: usize)
+    requires { ⌜ (q < 8) × Near at (2 ^ 62) ⌝ }
+    ensures { λ _. ⌜ RoundSays (now (places .entry)) n (eight (loweredPlace at mask q)) (now (places .exit)) ⌝ }
+{
+    if n < places.len() / 8 {
+        put_places(places, n, at, mask, q);
     }
 }
 
@@ -400,7 +285,7 @@ fn skipped(level: u8, cell: u64, from: u64, n: usize, room: usize) -> bool
     passed(level, cell, from)
 }
 
-// Writes the low corner of child q, with its level and the places round it, unless it is less than a number; the place after it.
+// Writes the low corner of child q, with its level and the places round it, unless it is less than a number, each in a table that has room; the place after it.
 fn take(
     level: u8,
     vertex: u64,
@@ -413,8 +298,7 @@ fn take(
     places: &mut [usize],
     n: usize,
 ) -> usize
-    requires { ⌜ (q < 8) × Near at (2 ^ 62) ⌝ }
-    requires { ⌜ Roomy (n + 1) (cellsOf (now vertices) (now levels) (now places)) ⌝ }
+    requires { ⌜ (q < 8) × (n + 1 < 2 ^ 64) × Near at (2 ^ 62) ⌝ }
     ensures { λ r. ⌜
         TakeSays from vertex level n (eight (loweredPlace at mask q)) (cellsOf (now (vertices .entry)) (now (levels .entry)) (now (places .entry)))
         (cellsOf (now (vertices .exit)) (now (levels .exit)) (now (places .exit))) r ⌝ }
@@ -422,39 +306,58 @@ fn take(
     if vertex < from {
         return n;
     }
-    vertices[n] = vertex;
-    levels[n] = level;
-    put_places(places, n, at, mask, q);
+    put(vertices, levels, n, vertex, level);
+    put_round(places, n, at, mask, q);
     n + 1
 }
 
-// Writes the wanted vertices of a divided cell from place n on, as many as have room; the place after the last.
+// The places of child q's entries; of the split ones, those of their first children.
+fn lower_at(firsts: &[u16], at: [usize; 8], mask: u64, child: u64, q: usize) -> [usize; 8]
+    requires { ⌜ (q < 8) × Near at (2 ^ 62) ⌝ }
+    ensures { λ r. ⌜ LoweredAt (now (firsts .entry)) at mask child q r ⌝ }
+{
+    let mut out = [0usize; 8];
+    let mut o: usize = 0;
+    while o < 8 {
+        let place = lower_place(at, mask, q, o);
+        if marked(child, o) {
+            out[o] = tree::first_at(firsts, place);
+            o += 1;
+        } else {
+            out[o] = place;
+            o += 1;
+        }
+    }
+    out
+}
+
+// Writes the wanted vertices of a divided cell from place n on, up to so many; the place after the last.
 fn gather(
     keys: &[u64],
+    firsts: &[u16],
     from: u64,
     room: usize,
     level: u8,
     cell: u64,
-    block: [u64; 8],
+    at: [usize; 8],
     mask: u64,
+    gaps: u64,
     vertices: &mut [u64],
     levels: &mut [u8],
     places: &mut [usize],
     n: usize,
 ) -> usize
-    requires { ⌜ Here (now keys) level cell block mask ⌝ }
-    requires { ⌜ divided (now keys) level cell ≡ true ⌝ }
-    requires { ⌜ (n ≤ room) × Roomy room (cellsOf (now vertices) (now levels) (now places)) ⌝ }
+    requires { ⌜ Here (nodesOf (now keys) (now firsts)) level cell at mask gaps ⌝ }
+    requires { ⌜ divided (nodesOf (now keys) (now firsts)) level cell ≡ true ⌝ }
+    requires { ⌜ n ≤ room ⌝ }
     ensures { λ r. ⌜
-        Stored (now (keys .entry)) from room (walked (limit - level) (now (keys .entry)) level cell) n r
+        Stored (nodesOf (now (keys .entry)) (now (firsts .entry))) from room (walked (limit - level) (nodesOf (now (keys .entry)) (now (firsts .entry))) level cell) n r
         (cellsOf (now (vertices .entry)) (now (levels .entry)) (now (places .entry))) (cellsOf (now (vertices .exit)) (now (levels .exit)) (now (places .exit))) ⌝ }
 {
     if level as u32 >= morton::LIMIT {
         return n;
     }
-    let below = split_below(keys, block, mask);
-    let gaps = gaps_of(block);
-    let at = places_of(keys, block, mask);
+    let below = split_below(keys, firsts, cell, at, mask);
     let mut m = n;
     let mut q: usize = 0;
     while q < 8 {
@@ -483,15 +386,17 @@ fn gather(
                     q += 1;
                 }
             } else {
-                let lowered = lower(block, mask, q);
+                let lowered = lower_at(firsts, at, mask, child_mask, q);
                 m = gather(
                     keys,
+                    firsts,
                     from,
                     room,
                     level + 1,
                     child,
                     lowered,
                     child_mask,
+                    lower_gaps(gaps, q),
                     vertices,
                     levels,
                     places,
@@ -504,6 +409,100 @@ fn gather(
     m
 }
 
+// The vertices of the whole tree from a number on, up to so many.
+fn from_root(
+    keys: &[u64],
+    firsts: &[u16],
+    from: u64,
+    room: usize,
+    vertices: &mut [u64],
+    levels: &mut [u8],
+    places: &mut [usize],
+) -> usize
+    ensures { λ r. ⌜
+        Stored (nodesOf (now (keys .entry)) (now (firsts .entry))) from room (spotsOf (nodesOf (now (keys .entry)) (now (firsts .entry)))) 0 r
+        (cellsOf (now (vertices .entry)) (now (levels .entry)) (now (places .entry))) (cellsOf (now (vertices .exit)) (now (levels .exit)) (now (places .exit))) ⌝ }
+{
+    let first = tree::first_at(firsts, 0);
+    if tree::leads(keys, first, 8) {
+        let at = [first, 0, 0, 0, 0, 0, 0, 0];
+        return gather(
+            keys,
+            firsts,
+            from,
+            room,
+            0,
+            1,
+            at,
+            1,
+            254,
+            vertices,
+            levels,
+            places,
+            0,
+        );
+    }
+    0
+}
+
+// Lists the whole tree from the tables' first place on; the number of its vertices.
+fn whole(keys: &[u64], firsts: &[u16], vertices: &mut [u64], levels: &mut [u8]) -> usize
+    ensures { λ r. ⌜ Laid (spotsOf (nodesOf (now (keys .entry)) (now (firsts .entry)))) 0 r (now (vertices .entry)) (now (levels .entry)) (now (vertices .exit)) (now (levels .exit)) ⌝ }
+{
+    let mut no_places = [0usize; 1];
+    from_root(
+        keys,
+        firsts,
+        0,
+        0x4000000000000000,
+        vertices,
+        levels,
+        &mut no_places,
+    )
+}
+
+// The list of a tree's vertices, written from a start place on, for one who knows that the tree is sound; of other tables, what the same walk comes
+// to. They are counted first, into tables that don't leave the call.
+pub fn list_trusting(
+    keys: &[u64],
+    firsts: &[u16],
+    start: usize,
+    vertices: &mut [u64],
+    levels: &mut [u8],
+) -> ListAnswer
+    ensures { λ r. ⌜ TrustingSays (nodesOf (now (keys .entry)) (now (firsts .entry))) start (listsOf (now (vertices .entry)) (now (levels .entry))) (listsOf (now (vertices .exit)) (now (levels .exit))) r ⌝ }
+{
+    let mut no_vertices = [0u64; 1];
+    let mut no_levels = [0u8; 1];
+    let n = whole(keys, firsts, &mut no_vertices, &mut no_levels);
+    if !has_room(vertices.len(), start, n) {
+        return ListAnswer::Refused(12);
+    }
+    if !has_room(levels.len(), start, n) {
+        return ListAnswer::Refused(12);
+    }
+    let m = whole(keys, firsts, &mut vertices[start..], &mut levels[start..]);
+    ListAnswer::Count(m)
+}
+
+// The list of a sound tree's vertices, written from a start place on.
+pub fn list(
+    keys: &[u64],
+    distances: &[f32],
+    leaves: &[u64],
+    firsts: &[u16],
+    start: usize,
+    vertices: &mut [u64],
+    levels: &mut [u8],
+) -> ListAnswer
+    ensures { λ r. ⌜ ListSays (treeOf (now (keys .entry)) (now (distances .entry)) (now (leaves .entry)) (now (firsts .entry))) start (listsOf (now (vertices .entry)) (now (levels .entry))) (listsOf (now (vertices .exit)) (now (levels .exit))) r ⌝ }
+{
+    if !tree::sound(keys, distances, leaves, firsts) {
+        return ListAnswer::Refused(11);
+    }
+    list_trusting(keys, firsts, start, vertices, levels)
+}
+
 fn shorter(a: usize, b: usize) -> usize
     ensures { λ r. ⌜ r ≡ min a b ⌝ }
 {
@@ -514,21 +513,17 @@ fn shorter(a: usize, b: usize) -> usize
 // one who knows that the tree is sound; of other tables, what the same walk comes to.
 pub fn cells_trusting(
     keys: &[u64],
+    firsts: &[u16],
     from: u64,
     vertices: &mut [u64],
     levels: &mut [u8],
     places: &mut [usize],
 ) -> usize
     ensures { λ r. ⌜
-        CellsSays (now (keys .entry)) from (cellsOf (now (vertices .entry)) (now (levels .entry)) (now (places .entry)))
+        CellsSays (nodesOf (now (keys .entry)) (now (firsts .entry))) from (cellsOf (now (vertices .entry)) (now (levels .entry)) (now (places .entry)))
         (cellsOf (now (vertices .exit)) (now (levels .exit)) (now (places .exit))) r ⌝ }
 {
     let pairs = shorter(vertices.len(), levels.len());
     let room = shorter(pairs, places.len() / 8);
-    let root = [1, 0, 0, 0, 0, 0, 0, 0];
-    let at = tree::first_from(keys, 8);
-    if tree::stands(keys, at, 8) {
-        return gather(keys, from, room, 0, 1, root, 1, vertices, levels, places, 0);
-    }
-    0
+    from_root(keys, firsts, from, room, vertices, levels, places)
 }

@@ -63,7 +63,7 @@ same-length-2 : tie.Need-same-length-2
 same-length-2 c = search needs
 
 returns-3 : tie.Need-returns-3
-returns-3 c = let a = c .before .before .before .before .before .before .before .before .before .before .before .before .before .before .before .before .before .before .before .args in
+returns-3 c = let a = c .before .before .before .before .before .before .before .before .before .before .before .before .before .before .before .before .before .before .before .before .args in
     wrote _ (a .start) _ _ (now (a .vertices)) (now (a .levels)) _ _ _ _ _ _ (c .before .before .before .before .before .before .before .before .before .before .before .before .before .whole .ensures) (c .before .before .before .before .whole2 .ensures) (record { vertices = said (c .before .before .before .before .before .before .before .before .before .before .has-room .result) _ (not-false _ (c .before .before .before .before .before .before .before .before .before .if1 .left)) (c .before .before .before .before .before .before .before .before .before .before .has-room .ensures); levels = said (c .before .before .before .before .before .before .before .before .has-room2 .result) _ (not-false _ (c .before .before .before .before .before .before .before .if2 .left)) (c .before .before .before .before .before .before .before .before .has-room2 .ensures) })
 
 pub list-trusting-spec : {M : Type 1} → statement M

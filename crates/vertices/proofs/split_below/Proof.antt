@@ -1,21 +1,21 @@
 -- `split_below` meets its contract: a turn puts eight bits over those before. Assumes nothing.
-use Prim.Native.Nat.{_-_, _≤_}
-use mathlib.Core.Path.{sym, _∙_}
+use Prim.Native.Nat.{ℕ, _-_, _^_, _≤_, _<_}
+use mathlib.Core.Path.{sym, _∙_, subst}
 use native.Mathlib.Omega.{arith}
 use borrow.Author.Needs.{needs}
-use Rattle.vertices.specs.Block.{marked}
-use Rattle.vertices.proofs.Marks.{Stacked, stacked-none, stacked-yes, stacked-no, stacked-fits, stacked-all}
+use Rattle.tree.specs.Down.{nodesOf}
+use Rattle.vertices.proofs.Marks.{marks-as, Stacked, stacked-none, stacked-yes, stacked-no, stacked-fits, stacked-all}
 use Rattle.vertices.proofs.split_below.Statement.{statement}
 use Rattle.vertices.proofs.split_below.Tie as tie
 
 abbrev Inv-loop : tie.InvT-loop
-Inv-loop keys mask block below₀ o₀ below o = (o ≤ 8) × Stacked keys block mask o below
+Inv-loop keys firsts cell mask at below₀ o₀ below o = (o ≤ 8) × Stacked (nodesOf keys firsts) cell at mask o below
 
 abbrev μ-loop : tie.MeasureT-loop
-μ-loop keys mask block below₀ o₀ below o = 8 - o
+μ-loop keys firsts cell mask at below₀ o₀ below o = 8 - o
 
 loop-holds : tie.Need-loop-holds Inv-loop μ-loop
-loop-holds c = (omega arith, stacked-none _ _ _)
+loop-holds c = (omega arith, stacked-none _ _ _ _)
 
 marked-requires : tie.Need-marked-requires Inv-loop μ-loop
 marked-requires c κs = search needs
@@ -26,8 +26,11 @@ mul-split-children c = search needs
 array-read-split-children : tie.Need-array-read-split-children Inv-loop μ-loop
 array-read-split-children c = search needs
 
+lower-cell-requires : tie.Need-lower-cell-requires Inv-loop μ-loop
+lower-cell-requires c κs = search needs
+
 split-children-requires : tie.Need-split-children-requires Inv-loop μ-loop
-split-children-requires c κs = let s = c .before .before .before .before .before in s .pre (c .before .before .before .loop .o) (omega arith) (sym (c .before .marked .ensures) ∙ c .if1 .taken)
+split-children-requires c κs = (c .before .before .before .before .before .before .before .pre .1 .each (c .before .before .before .before .loop .o) (omega arith), subst (λ (k : ℕ). k < 2 ^ 57) (sym (c .lower-cell .ensures)) (c .before .before .before .before .before .before .before .pre .0 (c .before .before .before .before .loop .o) (omega arith) (sym (c .before .before .marked .ensures) ∙ c .before .if1 .taken)))
 
 mul-below : tie.Need-mul-below Inv-loop μ-loop
 mul-below c = search needs
@@ -36,7 +39,7 @@ shl-below : tie.Need-shl-below Inv-loop μ-loop
 shl-below c = search needs
 
 add-below : tie.Need-add-below Inv-loop μ-loop
-add-below c = let l = c .before .before .before .before .loop in record { fits = stacked-fits _ _ _ (l .o) (l .below) (l .inv .1) (c .split-children .result) (omega arith) (c .split-children .ensures) }
+add-below c = record { fits = stacked-fits _ _ _ _ (c .before .before .before .before .before .loop .o) (c .before .before .before .before .before .loop .below) (c .before .before .before .before .before .loop .inv .1) (c .split-children .result) (omega arith) (marks-as (c .before .lower-cell .ensures) (c .split-children .ensures)) }
 
 add-o : tie.Need-add-o Inv-loop μ-loop
 add-o c = search needs
@@ -45,7 +48,7 @@ loop-less : tie.Need-loop-less Inv-loop μ-loop
 loop-less c = search needs
 
 loop-again : tie.Need-loop-again Inv-loop μ-loop
-loop-again c = let l = c .before .before .before .before .loop in (omega arith, stacked-yes _ _ _ (l .o) (l .below) (l .inv .1) (c .split-children .result) (omega arith) (c .split-children .ensures))
+loop-again c = (omega arith, stacked-yes _ _ _ _ (c .before .before .before .before .before .loop .o) (c .before .before .before .before .before .loop .below) (c .before .before .before .before .before .loop .inv .1) (c .split-children .result) (omega arith) (marks-as (c .before .lower-cell .ensures) (c .split-children .ensures)))
 
 add-o-2 : tie.Need-add-o-2 Inv-loop μ-loop
 add-o-2 c = search needs
@@ -54,10 +57,10 @@ loop-less-2 : tie.Need-loop-less-2 Inv-loop μ-loop
 loop-less-2 c = search needs
 
 loop-again-2 : tie.Need-loop-again-2 Inv-loop μ-loop
-loop-again-2 c = let l = c .before .before .before .loop in (omega arith, stacked-no _ _ _ (l .o) (l .below) (l .inv .1) (sym (c .before .marked .ensures) ∙ c .if1 .left))
+loop-again-2 c = (omega arith, stacked-no _ _ _ _ (c .before .before .before .loop .o) (c .before .before .before .loop .below) (c .before .before .before .loop .inv .1) (sym (c .before .marked .ensures) ∙ c .if1 .left))
 
 returns : tie.Need-returns Inv-loop μ-loop
-returns c = stacked-all _ _ _ (c .before .loop .o) _ (omega arith) (c .before .loop .inv .1)
+returns c = stacked-all _ _ _ _ (c .before .loop .o) _ (omega arith) (c .before .loop .inv .1)
 
 pub split-below-spec : {M : Type 1} → statement M
 split-below-spec =
@@ -69,6 +72,7 @@ split-below-spec =
     marked-requires
     mul-split-children
     array-read-split-children
+    lower-cell-requires
     split-children-requires
     mul-below
     shl-below

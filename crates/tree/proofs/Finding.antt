@@ -1,0 +1,336 @@
+-- The lookup that goes down: its way step by step, and that in a sound tree it answers as it should. Assumes nothing.
+use Prim.Native.Nat.{ℕ, zero, suc, _+_, _-_, _*_, _/_, _%_, _^_, _≤_, _<_}
+use mathlib.Core.Path.{_≡_, refl, sym, ap, ap₂, subst, _∙_}
+use mathlib.Core.Bool.{Bool, true, false, cond, _&&_}
+use mathlib.Core.Logic.{_⊎_, inl, inr, ⊎-elim}
+use mathlib.Core.List.{List}
+use native.Mathlib.Nat.{div-div-eq-div-mul, div-one, pow-suc, add-zero, add-suc, mul-comm}
+use native.Mathlib.Numerals.{add-one}
+use native.Mathlib.Omega.{arith}
+use lib.Dec.{leb}
+use lib.Ieee.{Float, nan}
+use lib.ListN.{length, getD}
+use borrow.Author.Tests.{le-leb, lt-leb}
+use Rattle.morton.specs.Level.{deepest, Cell, level, isCell}
+use Rattle.morton.proofs.Levels.{eight, is-cell, cell-level, level-le, eight-pos, eight-mono}
+use Rattle.morton.proofs.Fields.{cell-up, div-step}
+use Rattle.tree.specs.declared.Lookup.{Lookup}
+use Rattle.tree.specs.declared.Lookup.the-variants.{Found, Nothing, Refused}
+use Rattle.tree.specs.Tree.{Tree, StandsAt, In, Sound}
+use Rattle.tree.specs.Down.{Nodes, nodesOf, firstAt, leads, steps, reach, isSplit, over, placeOver, NodeOver}
+use Rattle.tree.specs.Climb.{ancestor, NoneDeeper, Deepest, LookupSays, triedIn, distanceAt, downOf, trustingOf}
+use Rattle.tree.proofs.Lists.{order, getD-inside, in-at, in-cast, stands-in}
+use Rattle.tree.proofs.Pass.{said, denied, up≤, eighth}
+use Rattle.tree.proofs.Down.{split-below, reach-down, over-down, over-stay, place-down, place-stay, over-split, reached, parent-in}
+
+-- what the way down reads of a tree
+abbrev pub nodes : Tree → Nodes
+nodes t = nodesOf (t .keys) (t .firsts)
+
+-- levels in bits
+pub shifted : (x m : ℕ) → x / 2 ^ (3 * m) ≡ x / 8 ^ m
+shifted x m = ap (λ (k : ℕ). x / k) (ap (λ (k : ℕ). 2 ^ k) (mul-comm 3 m) ∙ sym (eight m))
+
+-- ---- the way, on any tables
+
+module _ (n : Nodes) where
+  -- where a cell is not split, none below it is
+  split-stop : (l j x : ℕ) → isSplit n l (x / 8 ^ j) ≡ false → isSplit n (l + j) x ≡ false
+  unfolding isSplit
+  split-stop l zero x e = subst (λ (m : ℕ). isSplit n m x ≡ false) (sym (add-zero l)) (subst (λ (y : ℕ). isSplit n l y ≡ false) (div-one x) e)
+  split-stop l (suc j) x e =
+      subst (λ (m : ℕ). isSplit n m x ≡ false) (sym (add-suc l j))
+      (ap (λ (r : Bool). r && steps n (reach n (suc (l + j)) x) x) (split-stop l j (x / 8) (subst (λ (y : ℕ). isSplit n l y ≡ false) (div-step x 8 j) e)))
+
+  -- so the node over it is the node over all of them
+  over-stop : (l j x : ℕ) → isSplit n l (x / 8 ^ j) ≡ false → over n (l + j) x ≡ over n l (x / 8 ^ j)
+  over-stop l zero x e = ap₂ (over n) (add-zero l) (sym (div-one x))
+  over-stop l (suc j) x e =
+      let f : isSplit n l (x / 8 / 8 ^ j) ≡ false = subst (λ (y : ℕ). isSplit n l y ≡ false) (div-step x 8 j) e in
+      ap (λ (m : ℕ). over n m x) (add-suc l j) ∙ over-stay n (l + j) x (split-stop l j (x / 8) f) ∙ over-stop l j (x / 8) f ∙ ap (over n l) (sym (div-step x 8 j))
+
+  place-stop : (l j x : ℕ) → isSplit n l (x / 8 ^ j) ≡ false → placeOver n (l + j) x ≡ placeOver n l (x / 8 ^ j)
+  place-stop l zero x e = ap₂ (placeOver n) (add-zero l) (sym (div-one x))
+  place-stop l (suc j) x e =
+      let f : isSplit n l (x / 8 / 8 ^ j) ≡ false = subst (λ (y : ℕ). isSplit n l y ≡ false) (div-step x 8 j) e in
+      ap (λ (m : ℕ). placeOver n m x) (add-suc l j) ∙ place-stay n (l + j) x (split-stop l j (x / 8) f) ∙ place-stop l j (x / 8) f ∙ ap (placeOver n l) (sym (div-step x 8 j))
+
+  -- the way down to x of level L has come to level l, at a place
+  pub record Going (L x l place : ℕ) : Type 0 where
+    pub deep : l ≤ L
+    pub here : place ≡ reach n l (x / 8 ^ (L - l))
+    pub node : over n l (x / 8 ^ (L - l)) ≡ x / 8 ^ (L - l)
+    pub at : placeOver n l (x / 8 ^ (L - l)) ≡ place
+    pub chain : (r : Bool) → steps n place (x / 8 ^ (L - l)) ≡ r → isSplit n l (x / 8 ^ (L - l)) ≡ r
+
+  pub going-none : (L x : ℕ) → Going L x 0 0
+  unfolding reach over placeOver isSplit
+  going-none L x = record { deep = omega arith; here = refl; node = refl; at = refl; chain = λ r e. e }
+
+  -- the next cell on the way
+  pub next-up : (L x l : ℕ) → l < L → x / 8 ^ (L - l - 1) / 8 ≡ x / 8 ^ (L - l)
+  next-up L x l h =
+      let e : suc (L - l - 1) ≡ L - l = omega arith in
+      div-div-eq-div-mul x (8 ^ (L - l - 1)) 8 ∙ ap (λ (m : ℕ). x / m) (sym (pow-suc 8 (L - l - 1))) ∙ ap (λ (m : ℕ). x / 8 ^ m) e
+
+  module _ (L x l place : ℕ) (h : l < L) (g : Going L x l place) (child first : ℕ) (c : child ≡ x / 8 ^ (L - l - 1)) (f : first ≡ getD (n .firsts) place 0) where
+    half : child / 8 ≡ x / 8 ^ (L - l)
+    half = ap (λ (m : ℕ). m / 8) c ∙ next-up L x l h
+
+    test : (r : Bool) → leads (n .keys) first (8 * (child / 8)) ≡ r → isSplit n l (x / 8 ^ (L - l)) ≡ r
+    unfolding steps firstAt
+    test r e = g .chain r (ap₂ (leads (n .keys)) (sym f) (ap (λ (m : ℕ). 8 * m) (sym half)) ∙ e)
+
+    pub going-more : leads (n .keys) first (8 * (child / 8)) ≡ true → Going L x (l + 1) (first + child % 8)
+    unfolding firstAt
+    going-more e = subst (λ (m : ℕ). Going L x m (first + child % 8)) (sym (add-one l)) there
+      where
+        d : L - l - 1 ≡ L - suc l
+        d = omega arith
+
+        y : child ≡ x / 8 ^ (L - suc l)
+        y = c ∙ ap (λ (m : ℕ). x / 8 ^ m) d
+
+        s : isSplit n l (x / 8 ^ (L - suc l) / 8) ≡ true
+        s = ap (isSplit n l) (ap (λ (m : ℕ). m / 8) (sym y) ∙ half) ∙ test true e
+
+        at-reach : first + child % 8 ≡ reach n (suc l) (x / 8 ^ (L - suc l))
+        at-reach =
+            ap₂ _+_ (f ∙ ap (λ (m : ℕ). getD (n .firsts) m 0) (g .here ∙ ap (reach n l) (sym half ∙ ap (λ (m : ℕ). m / 8) y))) (ap (λ (m : ℕ). m % 8) y)
+            ∙ sym (reach-down n l (x / 8 ^ (L - suc l)))
+
+        there : Going L x (suc l) (first + child % 8)
+        there =
+            record {
+              deep = omega arith;
+              here = at-reach;
+              node = over-down n l (x / 8 ^ (L - suc l)) s;
+              at = place-down n l (x / 8 ^ (L - suc l)) s ∙ sym at-reach;
+              chain = λ r t. split-below n l (x / 8 ^ (L - suc l)) s ∙ ap (λ (m : ℕ). steps n m (x / 8 ^ (L - suc l))) (sym at-reach) ∙ t;
+            }
+
+    pub going-stop : leads (n .keys) first (8 * (child / 8)) ≡ false → NodeOver n L x l place
+    going-stop e =
+        let s : l + (L - l) ≡ L = omega arith in
+        let t : isSplit n l (x / 8 ^ (L - l)) ≡ false = test false e in
+        record {
+          no-deeper = g .deep;
+          is = ap (λ (m : ℕ). over n m x) (sym s) ∙ over-stop l (L - l) x t ∙ g .node;
+          at = ap (λ (m : ℕ). placeOver n m x) (sym s) ∙ place-stop l (L - l) x t ∙ g .at;
+        }
+
+  pub going-end : (L x l place : ℕ) → L ≤ l → Going L x l place → NodeOver n L x l place
+  going-end L x l place h g =
+      let e : l ≡ L = omega (arith, g .deep) in
+      let z : L - l ≡ 0 = omega arith in
+      let y : x / 8 ^ (L - l) ≡ x = ap (λ (m : ℕ). x / 8 ^ m) z ∙ div-one x in
+      record {
+        no-deeper = g .deep;
+        is = ap₂ (over n) (sym e) (sym y) ∙ g .node;
+        at = ap₂ (placeOver n) (sym e) (sym y) ∙ g .at;
+      }
+
+-- ---- the answer, on any tables
+
+module _ (n : Nodes) (ds : List Float) (k l place : ℕ) (c : Cell (level k) k) (v : NodeOver n (level k) k l place) where
+  node-cell : Cell l (over n (level k) k)
+  node-cell =
+      let e : l + (level k - l) ≡ level k = omega (arith, v .no-deeper) in
+      subst (Cell l) (sym (v .is)) (cell-up (level k - l) l k (subst (λ (m : ℕ). Cell m k) (sym e) c))
+
+  node-level : level (over n (level k) k) ≡ l
+  node-level = cell-level l (over n (level k) k) (omega (arith, v .no-deeper, level-le k)) node-cell
+
+  pub down-nothing : l ≡ 0 → Nothing (level k) ≡ downOf n ds k
+  unfolding downOf
+  down-nothing z =
+      let h : over n (level k) k < 8 = omega (arith, node-cell .high, ap (λ (m : ℕ). 8 ^ m) z) in
+      sym (ap (λ (r : Bool). cond r (Found (over n (level k) k) (distanceAt ds (placeOver n (level k) k)) (level k - level (over n (level k) k) + 1)) (Nothing (level k))) (lt-leb 8 _ h))
+
+  pub down-found : 0 < l → (key : ℕ) (d : Float) → key ≡ k / 8 ^ (level k - l) → d ≡ distanceAt ds place → Found key d (level k - l + 1) ≡ downOf n ds k
+  unfolding downOf
+  down-found p key d e f =
+      let h : 8 ≤ over n (level k) k = omega (arith, node-cell .low, eight-mono {i = 1} {j = l} p) in
+      ap₂ (λ (x : ℕ) (y : Float). Found x y (level k - l + 1)) (e ∙ sym (v .is)) (f ∙ ap (distanceAt ds) (sym (v .at)))
+      ∙ ap (λ (m : ℕ). Found (over n (level k) k) (distanceAt ds (placeOver n (level k) k)) (level k - m + 1)) (sym node-level)
+      ∙ sym (ap (λ (r : Bool). cond r (Found (over n (level k) k) (distanceAt ds (placeOver n (level k) k)) (level k - level (over n (level k) k) + 1)) (Nothing (level k))) (le-leb 8 _ h))
+
+-- what trusts the tree, where it is or isn't a cell key
+module _ (n : Nodes) (ds : List Float) (k : ℕ) where
+  pub trusting-down : isCell k ≡ true → downOf n ds k ≡ trustingOf n ds k
+  trusting-down c = rw c refl
+
+  pub trusting-refuses : isCell k ≡ false → Refused 1 ≡ trustingOf n ds k
+  trusting-refuses c = rw c refl
+
+-- by the level and the place that the code has
+module _ (n : Nodes) (ds : List Float) (k L l place : ℕ) (c : isCell k ≡ true) (e : L ≡ level k) (v : NodeOver n L k l place) where
+  own : NodeOver n (level k) k l place
+  own = subst (λ (m : ℕ). NodeOver n m k l place) e v
+
+  pub nothing-at : l ≡ 0 → Nothing L ≡ trustingOf n ds k
+  nothing-at z = ap Nothing e ∙ down-nothing n ds k l place (is-cell k c) own z ∙ trusting-down n ds k c
+
+  pub found-at : 0 < l → (key : ℕ) (d : Float) → key ≡ k / 8 ^ (L - l) → d ≡ distanceAt ds place → Found key d (L - l + 1) ≡ trustingOf n ds k
+  found-at p key d f g =
+      ap (λ (m : ℕ). Found key d (m - l + 1)) e
+      ∙ down-found n ds k l place (is-cell k c) own p key d (f ∙ ap (λ (m : ℕ). k / 8 ^ (m - l)) e) g
+      ∙ trusting-down n ds k c
+
+-- ---- in a sound tree
+
+ancestor-here : (k : ℕ) → k ≡ ancestor k (level k)
+ancestor-here k = let e : 0 ≡ level k - level k = omega arith in subst (λ (n : ℕ). k ≡ k / 8 ^ n) e (sym (div-one k))
+
+ancestor-up : (k l : ℕ) → suc l ≤ level k → ancestor k (suc l) / 8 ≡ ancestor k l
+ancestor-up k l h =
+    let e : suc (level k - suc l) ≡ level k - l = omega arith in
+    div-div-eq-div-mul k (8 ^ (level k - suc l)) 8 ∙ ap (λ (n : ℕ). k / n) (sym (pow-suc 8 (level k - suc l))) ∙ ap (λ (n : ℕ). k / 8 ^ n) e
+
+-- the ancestor of level l is a cell key of level l
+pub ancestor-cell : (k l : ℕ) → Cell (level k) k → l ≤ level k → Cell l (ancestor k l)
+ancestor-cell k l c h = let e : l + (level k - l) ≡ level k = omega arith in cell-up (level k - l) l k (subst (λ (n : ℕ). Cell n k) (sym e) c)
+
+pub ancestor-level : (k l : ℕ) → Cell (level k) k → l ≤ level k → level (ancestor k l) ≡ l
+ancestor-level k l c h = cell-level l (ancestor k l) (omega (arith, level-le k)) (ancestor-cell k l c h)
+
+module _ (t : Tree) (S : Sound t) where
+  -- the node over a cell: which level it has, where it stands, and that no deeper one is there
+  pub record OverIs (L x : ℕ) : Type 0 where
+    pub lev : ℕ
+    pub no-deeper : lev ≤ L
+    pub is : over (nodes t) L x ≡ x / 8 ^ (L - lev)
+    pub stands : StandsAt (t .keys) (placeOver (nodes t) L x) (over (nodes t) L x)
+    pub none : (j : ℕ) → lev < j → j ≤ L → In (x / 8 ^ (L - j)) (t .keys) → ⊥
+
+  pub over-is : (L x : ℕ) → Cell L x → OverIs L x
+  unfolding over placeOver
+  over-is zero x c =
+      let e : 1 ≡ x = omega (arith, c .low, c .high) in
+      record { lev = 0; no-deeper = omega arith; is = omega arith; stands = subst (StandsAt (t .keys) 0) e (S .first); none = λ j h g. absurd (omega arith) }
+  over-is (suc L) x c = go (isSplit (nodes t) L (x / 8)) refl (over-is L (x / 8) up)
+    where
+      up : Cell L (x / 8)
+      up = record { low = omega (arith, c .low, pow-suc 8 L); high = omega (arith, c .high, pow-suc 8 L) }
+
+      go : (r : Bool) → isSplit (nodes t) L (x / 8) ≡ r → OverIs L (x / 8) → OverIs (suc L) x
+      go true e v =
+          let o : over (nodes t) (suc L) x ≡ x = over-down (nodes t) L x e in
+          let p : placeOver (nodes t) (suc L) x ≡ reach (nodes t) (suc L) x = place-down (nodes t) L x e in
+          let z : suc L - suc L ≡ 0 = omega arith in
+          record {
+            lev = suc L;
+            no-deeper = omega arith;
+            is = o ∙ sym (ap (λ (m : ℕ). x / 8 ^ m) z ∙ div-one x);
+            stands = subst (λ (m : ℕ). StandsAt (t .keys) m (over (nodes t) (suc L) x)) (sym p) (subst (StandsAt (t .keys) (reach (nodes t) (suc L) x)) (sym o) (below e v));
+            none = λ j h g. absurd (omega arith);
+          }
+        where
+          here : isSplit (nodes t) L (x / 8) ≡ true → OverIs L (x / 8) → In (x / 8) (t .keys)
+          here e v = in-cast (sym (over-split (nodes t) L (x / 8) e)) (stands-in (v .stands))
+
+          child : In (x / 8) (t .keys) → In (8 * (x / 8)) (t .keys) → In x (t .keys)
+          child m i =
+              ⊎-elim (λ a. in-cast (omega arith) (a (x % 8) (omega arith))) (λ none. absurd (none 0 (omega arith) (in-cast (omega arith) i))) (S .children (x / 8) m)
+
+          below : isSplit (nodes t) L (x / 8) ≡ true → OverIs L (x / 8) → StandsAt (t .keys) (reach (nodes t) (suc L) x) x
+          below e v =
+              let m : In (x / 8) (t .keys) = here e v in
+              reached t S (suc L) x c (child m (said (isSplit (nodes t) L (x / 8)) _ e (reached t S L (x / 8) up m .split))) .stands
+      go false e v =
+          let o : over (nodes t) (suc L) x ≡ over (nodes t) L (x / 8) = over-stay (nodes t) L x e in
+          let p : placeOver (nodes t) (suc L) x ≡ placeOver (nodes t) L (x / 8) = place-stay (nodes t) L x e in
+          record {
+            lev = v .lev;
+            no-deeper = omega (arith, v .no-deeper);
+            is = o ∙ v .is ∙ higher (v .lev) (v .no-deeper);
+            stands = subst (λ (m : ℕ). StandsAt (t .keys) m (over (nodes t) (suc L) x)) (sym p) (subst (StandsAt (t .keys) (placeOver (nodes t) L (x / 8))) (sym o) (v .stands));
+            none = λ j h g m. ⊎-elim
+                (λ l. v .none j h (omega arith) (in-cast (higher j (omega arith)) m))
+                (λ l. let z : suc L - j ≡ 0 = omega arith in
+                let q = parent-in t S x (in-cast (sym (ap (λ (i : ℕ). x / 8 ^ i) z ∙ div-one x)) m) (λ i. omega (arith, c .low, pow-suc 8 L, eight-pos L)) in
+                denied (isSplit (nodes t) L (x / 8)) _ e (reached t S L (x / 8) up (q .0) .split) (q .1))
+                (order j (suc L));
+          }
+        where
+          higher : (j : ℕ) → j ≤ L → x / 8 / 8 ^ (L - j) ≡ x / 8 ^ (suc L - j)
+          higher j h = let s : suc (L - j) ≡ suc L - j = omega arith in sym (div-step x 8 (L - j)) ∙ ap (λ (i : ℕ). x / 8 ^ i) s
+
+  pub down-says : (asked : ℕ) → isCell asked ≡ true → LookupSays t asked (downOf (nodes t) (t .distances) asked)
+  unfolding downOf
+  down-says asked c = go (order (v .lev) 1)
+    where
+      cell : Cell (level asked) asked
+      cell = is-cell asked c
+
+      v : OverIs (level asked) asked
+      v = over-is (level asked) asked cell
+
+      is-cell-of : Cell (v .lev) (over (nodes t) (level asked) asked)
+      is-cell-of = subst (Cell (v .lev)) (sym (v .is)) (ancestor-cell asked (v .lev) cell (v .no-deeper))
+
+      lev-is : level (over (nodes t) (level asked) asked) ≡ v .lev
+      lev-is = cell-level (v .lev) (over (nodes t) (level asked) asked) (omega (arith, v .no-deeper, level-le asked)) is-cell-of
+
+      go : (v .lev < 1) ⊎ (1 ≤ v .lev) → LookupSays t asked (downOf (nodes t) (t .distances) asked)
+      go (inl z) =
+          let h : over (nodes t) (level asked) asked < 8 = omega (arith, is-cell-of .high, ap (λ (m : ℕ). 8 ^ m) (zero-is (v .lev) z)) in
+          rw (lt-leb 8 (over (nodes t) (level asked) asked) h) (S, c, (λ j a b m. v .none j (omega arith) b m), refl)
+        where
+          zero-is : (m : ℕ) → m < 1 → m ≡ 0
+          zero-is m h = omega arith
+      go (inr p) =
+          let h : 8 ≤ over (nodes t) (level asked) asked = omega (arith, is-cell-of .low, eight-mono {i = 1} {j = v .lev} p) in
+          rw (le-leb 8 (over (nodes t) (level asked) asked) h) (
+            S,
+            c,
+            record {
+              not-root = omega (arith, lev-is);
+              not-below = omega (arith, lev-is, v .no-deeper);
+              is-ancestor = v .is ∙ ap (λ (m : ℕ). asked / 8 ^ (level asked - m)) (sym lev-is);
+              place = placeOver (nodes t) (level asked) asked;
+              present = v .stands;
+              its-distance = getD-inside (t .distances) (placeOver (nodes t) (level asked) asked) _ nan (omega (arith, v .stands .inside, S .as-many));
+              none-deeper = λ j a b m. v .none j (omega (arith, lev-is)) b m;
+              count = refl;
+            },
+          )
+
+-- of a sound tree that is the lookup, refused or not
+pub trusting-lookup : (t : Tree) → Sound t → (asked : ℕ) → LookupSays t asked (trustingOf (nodes t) (t .distances) asked)
+trusting-lookup t S asked = go (isCell asked) refl
+  where
+    go : (b : Bool) → isCell asked ≡ b → LookupSays t asked (trustingOf (nodes t) (t .distances) asked)
+    go true c = subst (LookupSays t asked) (trusting-down (nodes t) (t .distances) asked c) (down-says t S asked c)
+    go false c = subst (LookupSays t asked) (trusting-refuses (nodes t) (t .distances) asked c) (inr (S, c, refl))
+
+-- at most 21 keys are tried
+pub tried-most : (t : Tree) (asked : ℕ) (r : Lookup) → LookupSays t asked r → triedIn r ≤ deepest
+tried-most t asked (Found key distance tried) (_, _, d) = omega (arith, d .count, d .not-root, level-le asked)
+tried-most t asked (Nothing tried) (_, _, _, e) = omega (arith, level-le asked)
+tried-most t asked (Refused n) s = omega arith
+
+-- ---- always found, unless the root is alone
+
+module _ (t : Tree) (S : Sound t) (more : 1 < length (t .keys)) where
+  -- the cells of level 1 are there
+  root-split : (w : ℕ) → w < 8 → In (8 * 1 + w) (t .keys)
+  root-split w h =
+      let second : In (getD (t .keys) 1 0) (t .keys) = in-at (t .keys) 1 more in
+      let above : 1 < getD (t .keys) 1 0 = omega (arith, S .ascending 0 1 (omega arith) more, S .first .here) in
+      let q : In (getD (t .keys) 1 0 / 8) (t .keys) =
+      subst (λ (x : ℕ). In x (t .keys)) (eighth (S .cells _ second) (λ e. omega arith)) (S .parents _ second (λ e. omega arith)) in
+      let first : q .place ≡ 0 = ⊎-elim
+      (λ p. absurd (omega (arith, q .here, up≤ (t .keys) (S .ascending) 1 (q .place) p (q .inside))))
+      (λ p. omega arith)
+      (order 0 (q .place)) in
+      let one : getD (t .keys) 1 0 / 8 ≡ 1 = sym (q .here) ∙ ap (λ (x : ℕ). getD (t .keys) x 0) first ∙ S .first .here in
+      ⊎-elim (λ all. all w h)
+      (λ none. absurd (none (getD (t .keys) 1 0 % 8) (omega arith) (record { place = 1; inside = more; here = omega arith })))
+      (S .children 1 (record { place = 0; inside = S .first .inside; here = S .first .here }))
+
+  pub always-found : (asked : ℕ) → Cell (level asked) asked → 1 ≤ level asked → NoneDeeper t asked 0 → ⊥
+  always-found asked c l none =
+      let a = ancestor-cell asked 1 c l in
+      none 1 (omega arith) l
+      (subst (λ (x : ℕ). In x (t .keys)) (omega (arith, a .low, a .high)) (root-split (ancestor asked 1 - 8) (omega (arith, a .low, a .high))))
