@@ -2,3 +2,4 @@
 pub mod Grid
 pub mod Corner
 pub mod Listing
+pub mod Near

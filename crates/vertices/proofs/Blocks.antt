@@ -17,13 +17,14 @@ use Rattle.morton.proofs.Cells.{child-cell}
 use Rattle.morton.proofs.Levels.{and-true, cell-lt, eight-pos, eight-mono}
 use Rattle.morton.proofs.Vertices.{up-pow, down-cell}
 use Rattle.tree.specs.Tree.{Decides}
-use Rattle.vertices.specs.Walk.{splitAt, near, inCube, entry, placeAt, some, all, Spot, inTurn, lowCorner, divided, meets, ending, walked, verticesOf, levelsOf}
+use Rattle.geometry.specs.Near.{near, inCube}
+use Rattle.vertices.specs.Walk.{splitAt, entry, placeAt, some, all, Spot, inTurn, lowCorner, divided, meets, ending, walked, verticesOf, levelsOf}
 use Rattle.vertices.specs.Block.{marked, Here, Small, BelowMarks, Near, loweredMark, loweredPlace, loweredAt, LoweredMarks, LoweredGaps, LoweredAt, Touched, Laid}
 use Rattle.tree.specs.Down.{Nodes, firstAt, steps, reach, isSplit}
 use Rattle.tree.proofs.Down.{steps-in, split-steps, over-split, place-split}
 use Rattle.morton.specs.Field.{sub}
 use Rattle.morton.proofs.Sides.{sub-key}
-use Rattle.vertices.proofs.Offsets.{Within, kept-lt, flip-lt, near-cell, in-cube}
+use Rattle.geometry.proofs.Offsets.{Within, kept-lt, flip-lt, near-cell, in-cube}
 use Rattle.vertices.proofs.Entries.{entry-in, entry-out, entry-lt, place-in, place-most, split-low, split-over, from, fromPlace, entry-step, place-step, split-step, node-up, node-down, fine-up, fine-down}
 use Rattle.vertices.proofs.Marks.{marked-zero, some-marked}
 

@@ -14,8 +14,9 @@ use Rattle.morton.specs.Level.{if₀, Cell}
 use Rattle.morton.proofs.Levels.{and-true, eight-pos}
 use Rattle.tree.specs.Down.{Nodes, firstAt, steps, reach, isSplit, over, placeOver}
 use Rattle.tree.proofs.Down.{split-below, reach-down, over-down, over-stay, place-down, place-stay, over-split, place-split, over-le, over-same, place-le}
-use Rattle.vertices.specs.Walk.{splitAt, near, inCube, entry, placeAt}
-use Rattle.vertices.proofs.Offsets.{kept-lt, flip-lt, near-cell, in-cube, cube-in, within-up, within-down, near-step}
+use Rattle.geometry.specs.Near.{near, inCube}
+use Rattle.vertices.specs.Walk.{splitAt, entry, placeAt}
+use Rattle.geometry.proofs.Offsets.{kept-lt, flip-lt, near-cell, in-cube, cube-in, within-up, within-down, near-step}
 
 -- ---- tests
 

@@ -8,7 +8,7 @@ use lib.Dec.{eqb}
 use borrow.Author.Tests.{eqb-true}
 use Rattle.vertices.specs.Walk.{all}
 use Rattle.vertices.specs.Block.{seenBy, keptBy, marked, SeenSays, Touched}
-use Rattle.vertices.proofs.Offsets.{kept-lt}
+use Rattle.geometry.proofs.Offsets.{kept-lt}
 use Rattle.vertices.proofs.Marks.{apart, shared}
 use Rattle.vertices.proofs.Blocks.{all-is}
 

@@ -1,5 +1,4 @@
 -- The laws behind `list`, in the order in which they build on each other.
-pub mod Offsets
 pub mod Entries
 pub mod Marks
 pub mod Blocks

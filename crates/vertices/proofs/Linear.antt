@@ -16,8 +16,9 @@ use Rattle.morton.proofs.Fields.{coord-key, coord-lt, key-coord, key-ext}
 use Rattle.morton.proofs.Levels.{cell-level, eight-pos}
 use Rattle.tree.specs.Down.{Nodes, firstAt, reach, isSplit}
 use Rattle.tree.proofs.Down.{split-steps, steps-in}
-use Rattle.vertices.specs.Walk.{splitAt, near, inCube, entry, Spot, inTurn, lowCorner, divided, meets, ending, walked, spotsOf, verticesOf}
-use Rattle.vertices.proofs.Offsets.{Within, near-cell, in-cube}
+use Rattle.geometry.specs.Near.{near, inCube}
+use Rattle.vertices.specs.Walk.{splitAt, entry, Spot, inTurn, lowCorner, divided, meets, ending, walked, spotsOf, verticesOf}
+use Rattle.geometry.proofs.Offsets.{Within, near-cell, in-cube}
 use Rattle.vertices.proofs.Entries.{entry-in, entry-out, split-low, split-over}
 use Rattle.vertices.proofs.Blocks.{some-is, walked-end, walked-on, walked-stop, ending-one, ending-none}
 use Rattle.vertices.proofs.Law.{corner-first, corner-last, corner-le}

@@ -20,7 +20,7 @@ use Rattle.tree.specs.Tree.{Decides}
 use Rattle.tree.specs.Down.{Nodes, firstAt, leads, steps}
 use Rattle.tree.proofs.Down.{leads-none}
 use Rattle.vertices.specs.Block.{marked, ChildMarks, BelowMarks, loweredMark, LoweredMarks, LoweredGaps}
-use Rattle.vertices.proofs.Offsets.{and-bit}
+use Rattle.geometry.proofs.Offsets.{and-bit}
 
 -- ---- one bit
 

@@ -16,12 +16,13 @@ use Rattle.morton.proofs.Levels.{and-true, eight-pos}
 use Rattle.tree.specs.Down.{Nodes, firstAt, leads, steps, reach, isSplit, over, placeOver}
 use Rattle.vertices.specs.declared.ListAnswer.{ListAnswer}
 use Rattle.vertices.specs.declared.ListAnswer.the-variants as list
-use Rattle.vertices.specs.Walk.{splitAt, near, entry, placeAt, Spot, divided, meets, ending, walked, spotsOf, verticesOf, levelsOf}
+use Rattle.geometry.specs.Near.{near}
+use Rattle.vertices.specs.Walk.{splitAt, entry, placeAt, Spot, divided, meets, ending, walked, spotsOf, verticesOf, levelsOf}
 use Rattle.vertices.specs.Listing.{Lists, listsOf, written, Room, TrustingSays}
 use Rattle.vertices.specs.Cells.{Cells}
 use Rattle.vertices.specs.Block.{marked, Here, Laid, Stored}
 use Rattle.vertices.proofs.Storing.{stored-none}
-use Rattle.vertices.proofs.Offsets.{Within, no-bits, cube-in, cube-out}
+use Rattle.geometry.proofs.Offsets.{Within, no-bits, cube-in, cube-out}
 use Rattle.vertices.proofs.Entries.{split-low, split-at, entry-in, entry-out, place-in, place-out}
 use Rattle.vertices.proofs.Marks.{marked-first, marked-one}
 use Rattle.vertices.proofs.Blocks.{none-is, some-if, all-is, walked-end, ending-none, vertices-length, levels-length}

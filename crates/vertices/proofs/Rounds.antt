@@ -25,10 +25,11 @@ use Rattle.tree.proofs.Pass.{denied}
 use Rattle.tree.proofs.Finding.{nodes}
 use Rattle.geometry.proofs.Shape.{sound-shape}
 use Rattle.geometry.proofs.Lookup.{none-between, root-leaf}
-use Rattle.vertices.specs.Walk.{near, splitAt, entry, placeAt, Spot, inTurn, lowCorner, divided, meets, ending, walked, spotsOf, verticesOf, levelsOf}
+use Rattle.geometry.specs.Near.{near}
+use Rattle.vertices.specs.Walk.{splitAt, entry, placeAt, Spot, inTurn, lowCorner, divided, meets, ending, walked, spotsOf, verticesOf, levelsOf}
 use Rattle.vertices.specs.Cells.{since, wanted, eight, roundOf, placesOf, Cells, roomOf, CellsSays}
 use Rattle.vertices.specs.Listing.{written}
-use Rattle.vertices.proofs.Offsets.{Within, near-cell, cube-in}
+use Rattle.geometry.proofs.Offsets.{Within, near-cell, cube-in}
 use Rattle.vertices.proofs.Entries.{entry-in, place-in}
 use Rattle.vertices.proofs.Blocks.{some-if, walked-end, walked-on, ending-one, ending-none, vertices-length, levels-length}
 use Rattle.vertices.proofs.Sound.{SoundKeys, Over, Fresh, Block, block-of, fresh-child, over-childless, place-stands}

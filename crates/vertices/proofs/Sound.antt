@@ -18,8 +18,9 @@ use Rattle.tree.proofs.Down.{over-split, reached}
 use Rattle.tree.proofs.Finding as finding
 use Rattle.tree.proofs.Lists.{in-cast, stands-in}
 use Rattle.tree.proofs.Pass.{said, denied}
-use Rattle.vertices.specs.Walk.{splitAt, near, entry, divided}
-use Rattle.vertices.proofs.Offsets.{Within, within-or-not, near-cell, cube-in, cube-out}
+use Rattle.geometry.specs.Near.{near}
+use Rattle.vertices.specs.Walk.{splitAt, entry, divided}
+use Rattle.geometry.proofs.Offsets.{Within, within-or-not, near-cell, cube-in, cube-out}
 use Rattle.vertices.proofs.Entries.{split-low, split-at, split-over, entry-in, entry-out, from, fine-down}
 use Rattle.vertices.proofs.Blocks.{some-is}
 

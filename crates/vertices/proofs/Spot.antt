@@ -23,8 +23,9 @@ use Rattle.tree.proofs.Lists.{in-cast}
 use Rattle.geometry.proofs.Place.{digit, bit-digit, up-up}
 use Rattle.geometry.proofs.Shape.{sound-shape, cell-pos}
 use Rattle.geometry.proofs.Lookup.{no-node}
-use Rattle.vertices.specs.Walk.{near, splitAt, entry, lowCorner}
-use Rattle.vertices.proofs.Offsets.{Within, near-cell, within-or-not}
+use Rattle.geometry.specs.Near.{near}
+use Rattle.vertices.specs.Walk.{splitAt, entry, lowCorner}
+use Rattle.geometry.proofs.Offsets.{Within, near-cell, within-or-not}
 use Rattle.vertices.proofs.Sound.{SoundKeys, Over, Block, same-level, over-childless}
 
 -- ---- words

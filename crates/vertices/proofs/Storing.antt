@@ -151,17 +151,12 @@ module _ (from : ℕ) where
 
 -- ---- the tables
 
-<<<<<<< HEAD
-module _ (ks : List ℕ) where
-  pub places-append : (ss ts : List Spot) → placesOf ks (ss ++ ts) ≡ placesOf ks ss ++ placesOf ks ts
-=======
 -- no table changes its length
 abbrev pub SameSize : Cells → Cells → Type 0
 SameSize was left = (length (left .vertices) ≡ length (was .vertices)) × (length (left .levels) ≡ length (was .levels)) × (length (left .places) ≡ length (was .places))
 
 module _ (ks : Nodes) where
-  places-append : (ss ts : List Spot) → placesOf ks (ss ++ ts) ≡ placesOf ks ss ++ placesOf ks ts
->>>>>>> 5ea3296 (study)
+  pub places-append : (ss ts : List Spot) → placesOf ks (ss ++ ts) ≡ placesOf ks ss ++ placesOf ks ts
   unfolding placesOf
   places-append [] ts = refl
   places-append (s ∷ ss) ts =

@@ -3,8 +3,8 @@ use Prim.Native.Nat.{ℕ, zero, suc, _+_, _*_, _-_, _^_}
 use mathlib.Core.Bool.{Bool, true, false, cond, _&&_, _||_}
 use mathlib.Core.List.{List, [], _∷_, _++_}
 use lib.Dec.{leb, ltb}
-use Rattle.morton.specs.Field.{bit, coord, key}
 use Rattle.morton.specs.Level.{deepest, limit, if₀}
+use Rattle.geometry.specs.Near.{near, inCube}
 use Rattle.tree.specs.Down.{Nodes, isSplit, over, placeOver}
 
 -- p has level l, and is a split node.
@@ -12,14 +12,6 @@ unfoldable pub splitAt : Nodes → ℕ → ℕ → Bool
 splitAt n l p = leb (8 ^ l) p && isSplit n l p
 
 -- ---- the nodes round the low corner of a cell
-
--- The cell that lies o lower than the cell c of level l: bit a of o is one cell on axis a.
-unfoldable pub near : ℕ → ℕ → ℕ → ℕ
-near l c o = key l (λ a. coord l c a - bit a o)
-
--- It lies in the cube.
-unfoldable pub inCube : ℕ → ℕ → ℕ → Bool
-inCube l c o = leb (bit 0 o) (coord l c 0) && (leb (bit 1 o) (coord l c 1) && leb (bit 2 o) (coord l c 2))
 
 -- Entry o of the cell c: the node over the cell that lies o lower, or 0 outside the cube.
 unfoldable pub entry : Nodes → ℕ → ℕ → ℕ → ℕ

@@ -489,15 +489,15 @@ pub fn list_trusting(
 pub fn list(
     keys: &[u64],
     distances: &[f32],
-    leaves: &[u64],
     firsts: &[u16],
+    leaves: &[u64],
     start: usize,
     vertices: &mut [u64],
     levels: &mut [u8],
 ) -> ListAnswer
-    ensures { λ r. ⌜ ListSays (treeOf (now (keys .entry)) (now (distances .entry)) (now (leaves .entry)) (now (firsts .entry))) start (listsOf (now (vertices .entry)) (now (levels .entry))) (listsOf (now (vertices .exit)) (now (levels .exit))) r ⌝ }
+    ensures { λ r. ⌜ ListSays (treeOf (now (keys .entry)) (now (distances .entry)) (now (firsts .entry)) (now (leaves .entry))) start (listsOf (now (vertices .entry)) (now (levels .entry))) (listsOf (now (vertices .exit)) (now (levels .exit))) r ⌝ }
 {
-    if !tree::sound(keys, distances, leaves, firsts) {
+    if !tree::sound(keys, distances, firsts, leaves) {
         return ListAnswer::Refused(11);
     }
     list_trusting(keys, firsts, start, vertices, levels)

@@ -6,7 +6,7 @@ use native.Mathlib.Omega.{arith}
 use borrow.Author.Needs.{needs}
 use lib.Bits.{bitAnd}
 use Rattle.vertices.specs.Block.{marked}
-use Rattle.vertices.proofs.Offsets.{kept-lt}
+use Rattle.geometry.proofs.Offsets.{kept-lt}
 use Rattle.vertices.proofs.Marks.{Filled, filled-none, filled-yes, filled-no, filled-fits, gaps-lowered}
 use Rattle.vertices.proofs.lower_gaps.Statement.{statement}
 use Rattle.vertices.proofs.lower_gaps.Tie as tie

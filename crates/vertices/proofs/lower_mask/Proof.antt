@@ -6,7 +6,7 @@ use native.Mathlib.Omega.{arith}
 use borrow.Author.Needs.{needs}
 use mathlib.Core.Bool.{true≢false}
 use Rattle.vertices.specs.Block.{marked, loweredMark}
-use Rattle.vertices.proofs.Offsets.{kept-lt, flip-lt}
+use Rattle.geometry.proofs.Offsets.{kept-lt, flip-lt}
 use Rattle.vertices.proofs.Blocks.{mark-yes, mark-no, mark-unseen}
 use Rattle.vertices.proofs.Marks.{marked-zero, Filled, filled-none, filled-yes, filled-no, filled-fits, filled-lowered}
 use Rattle.vertices.proofs.lower_mask.Statement.{statement}

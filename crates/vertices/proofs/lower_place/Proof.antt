@@ -4,7 +4,7 @@ use mathlib.Core.Path.{sym, _∙_}
 use native.Mathlib.Omega.{arith}
 use borrow.Author.Needs.{needs}
 use lib.Bits.{bitAnd}
-use Rattle.vertices.proofs.Offsets.{kept-lt, flip-lt}
+use Rattle.geometry.proofs.Offsets.{kept-lt, flip-lt}
 use Rattle.vertices.proofs.Places.{place-yes, place-no}
 use Rattle.vertices.proofs.lower_place.Statement.{statement}
 use Rattle.vertices.proofs.lower_place.Tie as tie

@@ -10,8 +10,8 @@ use Rattle.morton.specs.Field.{bit, coord}
 use Rattle.morton.proofs.Dilated.{axes}
 use Rattle.morton.proofs.Levels.{and-true}
 use Rattle.morton.proofs.Fields.{bit-le, coord-child, key-cell, key-ext}
 use Rattle.geometry.proofs.Place.{key-suc}
-use Rattle.vertices.specs.Walk.{near, inCube}
+use Rattle.geometry.specs.Near.{near, inCube}
 
 -- ---- bits of offsets
 
