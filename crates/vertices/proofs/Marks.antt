@@ -153,7 +153,7 @@ module _ (ks : Nodes) (first p : ℕ) where
   pub told-none : ((w : ℕ) → w < 8 → firstAt ks (first + w) ≡ 0) → ChildMarks ks first p 0
   unfolding steps
   told-none z =
-      record { small = omega arith; marks = λ w h. marked-zero w ∙ sym (leads-none (ks .keys) (firstAt ks (first + w)) (8 * (8 * p + w)) (z w h)) }
+      record { small = omega arith; marks = λ w h. marked-zero w ∙ sym (leads-none (ks .keys) (firstAt ks (first + w)) (8 * (8 * p + w)) (λ e. omega (arith, z w h))) }
 
   pub told-all : (w mask : ℕ) → w ≡ 8 → Filled Steps w mask → ChildMarks ks first p mask
   told-all w mask e s =

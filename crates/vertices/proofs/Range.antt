@@ -129,7 +129,7 @@ module _ (ks : Nodes) (t : SoundKeys ks) (l c : ℕ) (hl : l ≤ limit) (cc : Ce
 
 -- ---- the whole cube
 
-pub all-listed : (ks : Nodes) (ds : List Float) (leaves : List ℕ) → Sound (treeOf (ks .keys) ds leaves (ks .firsts)) → (vs ls : List ℕ)
+pub all-listed : (ks : Nodes) (ds : List Float) (leaves : List ℕ) → Sound (treeOf (ks .keys) ds (ks .firsts) leaves) → (vs ls : List ℕ)
     → Ranged ks (lowCorner 0 1) (lowCorner 0 2) vs ls → Listed leaves vs ls
 unfolding lowCorner
 all-listed ks ds leaves s vs ls r =

@@ -28,7 +28,7 @@ use Rattle.vertices.proofs.Blocks.{some-is}
 pub record SoundKeys (ks : Nodes) : Type 0 where
   pub distances : List Float
   pub leaves : List ℕ
-  pub sound : Sound (treeOf (ks .keys) distances leaves (ks .firsts))
+  pub sound : Sound (treeOf (ks .keys) distances (ks .firsts) leaves)
 
 -- p is the node over the cell x of level l: x itself, or a leaf that has it
 pub record Over (ks : Nodes) (l x p : ℕ) : Type 0 where
@@ -91,7 +91,7 @@ module _ (ks : Nodes) where
     -- ---- the walk's entries
 
     split-decides : (l x : ℕ) → Cell l x → In x (ks .keys) → Decides (isSplit ks l x) (In (8 * x) (ks .keys))
-    split-decides l x c m = reached (treeOf (ks .keys) (t .distances) (t .leaves) (ks .firsts)) (t .sound) l x c m .split
+    split-decides l x c m = reached (treeOf (ks .keys) (t .distances) (ks .firsts) (t .leaves)) (t .sound) l x c m .split
 
     at-decides : (l x p : ℕ) → Cell l x → Over ks l x p → Decides (splitAt ks l p) (SplitAt ks l p)
     at-decides l x p c v =
@@ -139,7 +139,7 @@ module _ (ks : Nodes) where
 
     -- and it stands where the way down leads
     pub place-stands : (l x : ℕ) → Cell l x → StandsAt (ks .keys) (placeOver ks l x) (over ks l x)
-    place-stands l x c = finding.over-is (treeOf (ks .keys) (t .distances) (t .leaves) (ks .firsts)) (t .sound) l x c .stands
+    place-stands l x c = finding.over-is (treeOf (ks .keys) (t .distances) (ks .firsts) (t .leaves)) (t .sound) l x c .stands
 
     pub block-of : (l c : ℕ) → Fresh ks l c → Block ks l c
     block-of l c fresh =

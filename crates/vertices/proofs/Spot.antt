@@ -101,7 +101,7 @@ module _ (ks : Nodes) (t : SoundKeys ks) where
   -- no node lies in one that has no children
   none-below : (p k j : ℕ) → In p (ks .keys) → NoChild p (ks .keys) → In k (ks .keys) → k / 8 ^ suc j ≡ p → ⊥
   none-below p k j mp n mk e =
-      no-node limit (ks .keys) (t .leaves) (sound-shape (treeOf (ks .keys) (t .distances) (t .leaves) (ks .firsts)) (t .sound)) p (t .sound .childless-leaves p mp n) j k mk e
+      no-node limit (ks .keys) (t .leaves) (sound-shape (treeOf (ks .keys) (t .distances) (ks .firsts) (t .leaves)) (t .sound)) p (t .sound .childless-leaves p mp n) j k mk e
 
   -- the node over a cell that is present is the cell
   over-present : (l x p : ℕ) → Over ks l x p → In x (ks .keys) → p ≡ x
