@@ -91,6 +91,7 @@ counts s z room h =
 pub record Same (a b : Lengths) : Type 0 where
   pub keys : a .keys ≡ b .keys
   pub distances : a .distances ≡ b .distances
+  pub firsts : a .firsts ≡ b .firsts
   pub leaves : a .leaves ≡ b .leaves
   pub queue : a .queue ≡ b .queue
 
@@ -99,12 +100,14 @@ unfolding sameLengths
 same a b h =
     let h2 = and-true (eqb (a .keys) (b .keys)) _ h in
     let h3 = and-true (eqb (a .distances) (b .distances)) _ (h2 .1) in
-    let h4 = and-true (eqb (a .leaves) (b .leaves)) _ (h3 .1) in
+    let h4 = and-true (eqb (a .firsts) (b .firsts)) _ (h3 .1) in
+    let h5 = and-true (eqb (a .leaves) (b .leaves)) _ (h4 .1) in
     record {
       keys = eqb-true _ _ (h2 .0);
       distances = eqb-true _ _ (h3 .0);
-      leaves = eqb-true _ _ (h4 .0);
-      queue = eqb-true _ _ (h4 .1);
+      firsts = eqb-true _ _ (h4 .0);
+      leaves = eqb-true _ _ (h5 .0);
+      queue = eqb-true _ _ (h5 .1);
     }
 
 -- a state that fits, and in which a cell is asked
@@ -215,6 +218,7 @@ ready s split d t h =
     record {
       key-room = omega (arith, p .nodes);
       distance-room = omega (arith, p .nodes);
+      first-room = omega (arith, p .nodes);
       small = omega (arith, p .nodes);
       few = k .few;
       key = cell-short (finest (s .bound)) (s .asked) f (p .state .cell);

@@ -17,28 +17,31 @@ use Rattle.build.specs.declared.State.{State}
 use Rattle.build.specs.declared.Answer.{Answer}
 use Rattle.build.specs.declared.Answer.the-variants.{Ask, Finished, Refused}
 
--- Lent: node keys, node distances, leaf keys, a queue.
+-- Lent: node keys, node distances, first children, leaf keys, a queue.
 pub record Tables : Type 0 where
   pub keys : List ℕ
   pub distances : List Float
+  pub firsts : List ℕ
   pub leaves : List ℕ
   pub queue : List ℕ
 
-abbrev pub tablesOf : List ℕ → List Float → List ℕ → List ℕ → Tables
-tablesOf keys distances leaves queue = record { keys = keys; distances = distances; leaves = leaves; queue = queue }
+abbrev pub tablesOf : List ℕ → List Float → List ℕ → List ℕ → List ℕ → Tables
+tablesOf keys distances firsts leaves queue =
+    record { keys = keys; distances = distances; firsts = firsts; leaves = leaves; queue = queue }
 
 unfoldable pub lengthsOf : Tables → Lengths
 lengthsOf t =
     record {
       keys = length (t .keys);
       distances = length (t .distances);
+      firsts = length (t .firsts);
       leaves = length (t .leaves);
       queue = length (t .queue);
     }
 
--- Node room is the shorter of the first two lengths, at most 4,096.
+-- Node room is the shortest of the first three lengths, at most 4,096.
 unfoldable pub nodeRoom : Lengths → ℕ
-nodeRoom z = min (min (z .keys) (z .distances)) 4096
+nodeRoom z = min (min (min (z .keys) (z .distances)) (z .firsts)) 4096
 
 -- D is the larger of the bound and 2. The finest grid is all cells of level D.
 unfoldable pub finest : ℕ → ℕ
@@ -76,7 +79,9 @@ cellTo top key = isCell key && leb (level key) top
 unfoldable pub sameLengths : Lengths → Lengths → Bool
 sameLengths a b =
     eqb (a .keys) (b .keys)
-    && (eqb (a .distances) (b .distances) && (eqb (a .leaves) (b .leaves) && eqb (a .queue) (b .queue)))
+    && (eqb (a .distances) (b .distances)
+    && (eqb (a .firsts) (b .firsts)
+    && (eqb (a .leaves) (b .leaves) && eqb (a .queue) (b .queue))))
 
 -- The bound is at most 15; m <= n <= node room and m <= leaf room.
 unfoldable pub countsFit : State → Lengths → ℕ → Bool
@@ -140,12 +145,17 @@ childrenTo (suc i) queue key item = set (childrenTo i queue key item) ((item + i
 unfoldable pub queueOf : State → Bool → Tables → List ℕ
 queueOf s split t = cond split (childrenTo 8 (t .queue) (s .asked) (items (s .nodes) (s .leaves))) (t .queue)
 
+-- The place of the first of its eight children: with n nodes and m leaves 8(n-m)+1 at a split, 0 at a leaf.
+unfoldable pub firstOf : State → Bool → ℕ
+firstOf s split = cond split (items (s .nodes) (s .leaves) + 1) 0
+
 -- The node goes to place n. An unsplit key goes to leaf place m.
 unfoldable pub storedOf : State → Bool → Float → Tables → Tables
 storedOf s split d t =
     record {
       keys = set (t .keys) (s .nodes) (s .asked);
       distances = set (t .distances) (s .nodes) d;
+      firsts = set (t .firsts) (s .nodes) (firstOf s split);
       leaves = cond split (t .leaves) (set (t .leaves) (s .leaves) (s .asked));
       queue = queueOf s split t;
     }
@@ -201,6 +211,7 @@ startOf bound t =
 pub record Ready (s : State) (split : Bool) (t : Tables) : Type 0 where
   pub key-room : s .nodes < length (t .keys)
   pub distance-room : s .nodes < length (t .distances)
+  pub first-room : s .nodes < length (t .firsts)
   pub small : s .nodes < 4096
   pub few : s .leaves ≤ s .nodes
   pub key : s .asked < 2 ^ 61

@@ -15,6 +15,7 @@ const MOST_NODES: usize = 4096;
 pub struct Lengths {
     pub keys: usize,
     pub distances: usize,
+    pub firsts: usize,
     pub leaves: usize,
     pub queue: usize,
 }
@@ -122,7 +123,7 @@ fn shorter(a: usize, b: usize) -> usize
 fn node_room(z: Lengths) -> usize
     ensures { λ r. ⌜ r ≡ nodeRoom z ⌝ }
 {
-    shorter(shorter(z.keys, z.distances), MOST_NODES)
+    shorter(shorter(shorter(z.keys, z.distances), z.firsts), MOST_NODES)
 }
 
 // Whether the key is a cell key of level at most `top`.
@@ -144,6 +145,9 @@ fn same_lengths(a: Lengths, b: Lengths) -> bool
         return false;
     }
     if a.distances != b.distances {
+        return false;
+    }
+    if a.firsts != b.firsts {
         return false;
     }
     if a.leaves != b.leaves {
@@ -264,12 +268,19 @@ fn refusal_at(s: State, z: Lengths, next: u64, distance: f32, room: usize, top: 
     full(s, split)
 }
 
-fn lengths_of(keys: &[u64], distances: &[f32], leaves: &[u64], queue: &[u64]) -> Lengths
-    ensures { λ r. ⌜ r ≡ lengthsOf (tablesOf (now (keys .entry)) (now (distances .entry)) (now (leaves .entry)) (now (queue .entry))) ⌝ }
+fn lengths_of(
+    keys: &[u64],
+    distances: &[f32],
+    firsts: &[u16],
+    leaves: &[u64],
+    queue: &[u64],
+) -> Lengths
+    ensures { λ r. ⌜ r ≡ lengthsOf (tablesOf (now (keys .entry)) (now (distances .entry)) (now (firsts .entry)) (now (leaves .entry)) (now (queue .entry))) ⌝ }
 {
     Lengths {
         keys: keys.len(),
         distances: distances.len(),
+        firsts: firsts.len(),
         leaves: leaves.len(),
         queue: queue.len(),
     }
@@ -280,12 +291,13 @@ fn refusal_of(
     distance: f32,
     keys: &[u64],
     distances: &[f32],
+    firsts: &[u16],
     leaves: &[u64],
     queue: &[u64],
 ) -> u32
-    ensures { λ r. ⌜ r ≡ refusalOf s (splitOf s distance) distance (tablesOf (now (keys .entry)) (now (distances .entry)) (now (leaves .entry)) (now (queue .entry))) ⌝ }
+    ensures { λ r. ⌜ r ≡ refusalOf s (splitOf s distance) distance (tablesOf (now (keys .entry)) (now (distances .entry)) (now (firsts .entry)) (now (leaves .entry)) (now (queue .entry))) ⌝ }
 {
-    let z = lengths_of(keys, distances, leaves, queue);
+    let z = lengths_of(keys, distances, firsts, leaves, queue);
     let next = item_at(queue, s.nodes);
     let room = node_room(z);
     let top = finest_level(s.bound);
@@ -293,13 +305,20 @@ fn refusal_of(
 }
 
 // Begins a build over tables of these lengths: the root is asked for first.
-pub fn start(bound: u32, keys: &[u64], distances: &[f32], leaves: &[u64], queue: &[u64]) -> Answer
-    ensures { λ r. ⌜ r ≡ startOf bound (tablesOf (now (keys .entry)) (now (distances .entry)) (now (leaves .entry)) (now (queue .entry))) ⌝ }
+pub fn start(
+    bound: u32,
+    keys: &[u64],
+    distances: &[f32],
+    firsts: &[u16],
+    leaves: &[u64],
+    queue: &[u64],
+) -> Answer
+    ensures { λ r. ⌜ r ≡ startOf bound (tablesOf (now (keys .entry)) (now (distances .entry)) (now (firsts .entry)) (now (leaves .entry)) (now (queue .entry))) ⌝ }
 {
     if bound > morton::LIMIT {
         return Answer::Refused(5);
     }
-    let lengths = lengths_of(keys, distances, leaves, queue);
+    let lengths = lengths_of(keys, distances, firsts, leaves, queue);
     Answer::Ask(
         root(),
         State {
@@ -357,21 +376,23 @@ fn advance(s: State, leaves: usize, queue: &[u64]) -> Answer
     }
 }
 
-// Stores the asked cell, as a leaf or with its children queued, and says how many leaves there are then.
+// Stores the asked cell, as a leaf or with its children queued, and says how many leaves there are then. Item j becomes node j + 1, the
+// root being node 0 and no item: so a first child's place is known before its distance is.
 fn store(
     s: State,
     keys: &mut [u64],
     distances: &mut [f32],
+    firsts: &mut [u16],
     leaves: &mut [u64],
     queue: &mut [u64],
     distance: f32,
     split: bool,
 ) -> usize
-    requires { ⌜ Ready s split (tablesOf (now keys) (now distances) (now leaves) (now queue)) ⌝ }
+    requires { ⌜ Ready s split (tablesOf (now keys) (now distances) (now firsts) (now leaves) (now queue)) ⌝ }
     ensures { λ r. ⌜
         (r ≡ leavesOf s split)
-        × (tablesOf (now (keys .exit)) (now (distances .exit)) (now (leaves .exit)) (now (queue .exit))
-        ≡ storedOf s split distance (tablesOf (now (keys .entry)) (now (distances .entry)) (now (leaves .entry)) (now (queue .entry)))) ⌝ }
+        × (tablesOf (now (keys .exit)) (now (distances .exit)) (now (firsts .exit)) (now (leaves .exit)) (now (queue .exit))
+        ≡ storedOf s split distance (tablesOf (now (keys .entry)) (now (distances .entry)) (now (firsts .entry)) (now (leaves .entry)) (now (queue .entry)))) ⌝ }
 {
     let n = s.nodes;
     let m = s.leaves;
@@ -379,9 +400,12 @@ fn store(
     keys[n] = key;
     distances[n] = distance;
     if split {
-        put_children(queue, key, 8 * (n - m));
+        let item = 8 * (n - m);
+        firsts[n] = (item + 1) as u16;
+        put_children(queue, key, item);
         return m;
     }
+    firsts[n] = 0;
     leaves[m] = key;
     m + 1
 }
@@ -391,17 +415,18 @@ fn accept(
     s: State,
     keys: &mut [u64],
     distances: &mut [f32],
+    firsts: &mut [u16],
     leaves: &mut [u64],
     queue: &mut [u64],
     distance: f32,
     split: bool,
 ) -> Answer
-    requires { ⌜ Ready s split (tablesOf (now keys) (now distances) (now leaves) (now queue)) ⌝ }
+    requires { ⌜ Ready s split (tablesOf (now keys) (now distances) (now firsts) (now leaves) (now queue)) ⌝ }
     ensures { λ r. ⌜
-        outcome r (tablesOf (now (keys .exit)) (now (distances .exit)) (now (leaves .exit)) (now (queue .exit)))
-        ≡ acceptOf s split distance (tablesOf (now (keys .entry)) (now (distances .entry)) (now (leaves .entry)) (now (queue .entry))) ⌝ }
+        outcome r (tablesOf (now (keys .exit)) (now (distances .exit)) (now (firsts .exit)) (now (leaves .exit)) (now (queue .exit)))
+        ≡ acceptOf s split distance (tablesOf (now (keys .entry)) (now (distances .entry)) (now (firsts .entry)) (now (leaves .entry)) (now (queue .entry))) ⌝ }
 {
-    let m = store(s, keys, distances, leaves, queue, distance, split);
+    let m = store(s, keys, distances, firsts, leaves, queue, distance, split);
     advance(s, m, queue)
 }
 
@@ -410,18 +435,19 @@ pub fn distance(
     s: State,
     keys: &mut [u64],
     distances: &mut [f32],
+    firsts: &mut [u16],
     leaves: &mut [u64],
     queue: &mut [u64],
     distance: f32,
 ) -> Answer
     ensures { λ r. ⌜
-        outcome r (tablesOf (now (keys .exit)) (now (distances .exit)) (now (leaves .exit)) (now (queue .exit)))
-        ≡ distanceOf s distance (tablesOf (now (keys .entry)) (now (distances .entry)) (now (leaves .entry)) (now (queue .entry))) ⌝ }
+        outcome r (tablesOf (now (keys .exit)) (now (distances .exit)) (now (firsts .exit)) (now (leaves .exit)) (now (queue .exit)))
+        ≡ distanceOf s distance (tablesOf (now (keys .entry)) (now (distances .entry)) (now (firsts .entry)) (now (leaves .entry)) (now (queue .entry))) ⌝ }
 {
-    let number = refusal_of(s, distance, keys, distances, leaves, queue);
+    let number = refusal_of(s, distance, keys, distances, firsts, leaves, queue);
     if number != 0 {
         return Answer::Refused(number);
     }
     let split = is_split(s, distance);
-    accept(s, keys, distances, leaves, queue, distance, split)
+    accept(s, keys, distances, firsts, leaves, queue, distance, split)
 }

@@ -8,7 +8,7 @@ store-requires : tie.Need-store-requires
 store-requires c κs = search needs
 
 advance-requires : tie.Need-advance-requires
-advance-requires c κs = ready-leaves _ _ _ _ (c .before .before .before .before .before .before .before .before .before .before .before .before .before .before .before .before .before .before .pre) (c .before .before .before .before .before .before .before .before .before .store .ensures .0)
+advance-requires c κs = ready-leaves _ _ _ _ (c .before .before .before .before .before .before .before .before .before .before .before .before .before .before .before .before .before .before .before .before .before .before .pre) (c .before .before .before .before .before .before .before .before .before .before .before .store .ensures .0)
 
 same-length : tie.Need-same-length
 same-length c = search needs
@@ -22,8 +22,11 @@ same-length-3 c = search needs
 same-length-4 : tie.Need-same-length-4
 same-length-4 c = search needs
 
+same-length-5 : tie.Need-same-length-5
+same-length-5 c = search needs
+
 returns : tie.Need-returns
-returns c = accept-is _ _ _ _ _ _ _ (c .before .before .before .before .before .before .before .before .before .before .store .ensures .0) (c .before .before .before .before .before .before .before .before .before .before .store .ensures .1) (c .advance .ensures)
+returns c = accept-is _ _ _ _ _ _ _ (c .before .before .before .before .before .before .before .before .before .before .before .before .store .ensures .0) (c .before .before .before .before .before .before .before .before .before .before .before .before .store .ensures .1) (c .advance .ensures)
 
 pub accept-spec : {M : Type 1} → statement M
 accept-spec =
@@ -35,4 +38,5 @@ accept-spec =
     same-length-2
     same-length-3
     same-length-4
+    same-length-5
     returns)

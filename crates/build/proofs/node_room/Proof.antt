@@ -10,9 +10,13 @@ shorter-requires c κs = search needs
 shorter-requires-2 : tie.Need-shorter-requires-2
 shorter-requires-2 c κs = search needs
 
+shorter-requires-3 : tie.Need-shorter-requires-3
+shorter-requires-3 c κs = search needs
+
 returns : tie.Need-returns
 unfolding nodeRoom
 returns c = search needs
 
 pub node-room-spec : {M : Type 1} → statement M
-node-room-spec = tie.close (tie.spec shorter-requires shorter-requires-2 returns)
+node-room-spec =
+    tie.close (tie.spec shorter-requires shorter-requires-2 shorter-requires-3 returns)

@@ -20,5 +20,9 @@ returns-4 : tie.Need-returns-4
 unfolding sameLengths
 returns-4 c = search called
 
+returns-5 : tie.Need-returns-5
+unfolding sameLengths
+returns-5 c = search called
+
 pub same-lengths-spec : {M : Type 1} → statement M
-same-lengths-spec = tie.close (tie.spec returns returns-2 returns-3 returns-4)
+same-lengths-spec = tie.close (tie.spec returns returns-2 returns-3 returns-4 returns-5)
