@@ -6,19 +6,19 @@ use lib.ListN.{length}
 use Rattle.build.specs.declared.State.{State}
 use Rattle.mittenhelm_builds.specs.Words.{stateOf, wordsOf}
 use Rattle.mittenhelm_builds.specs.Header.{Told}
-use Rattle.mittenhelm_builds.proofs.Words.{eight-are}
+use Rattle.mittenhelm_builds.proofs.Words.{nine-are}
 
 pub read-back : (s : State) → stateOf (wordsOf s) ≡ s
 unfolding stateOf wordsOf
 read-back s = refl
 
-pub written-back : (words : List ℕ) → length words ≡ 8 → wordsOf (stateOf words) ≡ words
+pub written-back : (words : List ℕ) → length words ≡ 9 → wordsOf (stateOf words) ≡ words
 unfolding stateOf wordsOf
-written-back words l = eight-are words l
+written-back words l = nine-are words l
 
-pub words-are-eight : (s : State) → length (wordsOf s) ≡ 8
+pub words-are-nine : (s : State) → length (wordsOf s) ≡ 9
 unfolding wordsOf
-words-are-eight s = refl
+words-are-nine s = refl
 
 pub words-told : (s : State) → Told (wordsOf s) s
 unfolding wordsOf
@@ -30,6 +30,7 @@ words-told s =
       asked = refl;
       keys-length = refl;
       distances-length = refl;
+      firsts-length = refl;
       leaves-length = refl;
       queue-length = refl;
     }

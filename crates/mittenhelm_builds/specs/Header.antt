@@ -17,5 +17,6 @@ pub record Told (words : List ℕ) (s : State) : Type 0 where
   pub asked : word words 3 ≡ s .asked
   pub keys-length : word words 4 ≡ s .lengths .keys
   pub distances-length : word words 5 ≡ s .lengths .distances
-  pub leaves-length : word words 6 ≡ s .lengths .leaves
-  pub queue-length : word words 7 ≡ s .lengths .queue
+  pub firsts-length : word words 6 ≡ s .lengths .firsts
+  pub leaves-length : word words 7 ≡ s .lengths .leaves
+  pub queue-length : word words 8 ≡ s .lengths .queue

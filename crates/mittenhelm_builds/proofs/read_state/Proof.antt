@@ -32,6 +32,9 @@ shared-slice-read-t20 c = search needs
 shared-slice-read-t23 : tie.Need-shared-slice-read-t23
 shared-slice-read-t23 c = search needs
 
+shared-slice-read-t26 : tie.Need-shared-slice-read-t26
+shared-slice-read-t26 c = search needs
+
 returns : tie.Need-returns
 unfolding stateOf
 returns c = refl
@@ -49,4 +52,5 @@ read-state-spec =
     shared-slice-read-t17
     shared-slice-read-t20
     shared-slice-read-t23
+    shared-slice-read-t26
     returns)

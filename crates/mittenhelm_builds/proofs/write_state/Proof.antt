@@ -1,6 +1,6 @@
--- `write_state` meets its contract: eight stores fill the slice. Assumes nothing.
+-- `write_state` meets its contract: nine stores fill the slice. Assumes nothing.
 use denote.Ref.{now}
-use Rattle.mittenhelm_builds.proofs.Words.{eight-words}
+use Rattle.mittenhelm_builds.proofs.Words.{nine-words}
 use Rattle.mittenhelm_builds.specs.Words.{wordsOf}
 use lib.ListN.{length-set}
 use native.Mathlib.Omega.{arith}
@@ -35,12 +35,15 @@ slice-write-words-7 c = simp length-set (omega (arith, c .before .before .pre))
 slice-write-words-8 : tie.Need-slice-write-words-8
 slice-write-words-8 c = simp length-set (omega (arith, c .before .before .pre))
 
+slice-write-words-9 : tie.Need-slice-write-words-9
+slice-write-words-9 c = simp length-set (omega (arith, c .before .before .pre))
+
 same-length : tie.Need-same-length
 same-length c = search needs
 
 returns : tie.Need-returns
 unfolding wordsOf
-returns c = eight-words (now (c .before .before .args .words)) _ _ _ _ _ _ _ _ (c .before .before .pre)
+returns c = nine-words (now (c .before .before .args .words)) _ _ _ _ _ _ _ _ _ (c .before .before .pre)
 
 pub write-state-spec : {M : Type 1} → statement M
 write-state-spec =
@@ -55,5 +58,6 @@ write-state-spec =
     slice-write-words-6
     slice-write-words-7
     slice-write-words-8
+    slice-write-words-9
     same-length
     returns)
