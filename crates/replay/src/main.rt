@@ -91,7 +91,8 @@ fn agrees(l: Line) -> bool {
     }
 }
 
-// ---- builds: `start` begins one over tables that are all 0, as long as B says; `distance` goes on with it.
+// ---- builds: `start` begins one over tables that are all 0, the queue as long as A says above its bound and the others as B says;
+// `distance` goes on with it.
 
 // The state of the build at hand, and whether the last line agreed.
 struct Step {
@@ -144,19 +145,22 @@ fn start(
     was: State,
     keys: &[u64],
     distances: &[f32],
+    firsts: &[u16],
     leaves: &[u64],
     queue: &[u64],
 ) -> Step {
     let a = sample::length_at(l.b, 0, keys.len());
     let b = sample::length_at(l.b, 1, distances.len());
-    let c = sample::length_at(l.b, 2, leaves.len());
-    let d = sample::length_at(l.b, 3, queue.len());
+    let c = sample::length_at(l.b, 2, firsts.len());
+    let d = sample::length_at(l.b, 3, leaves.len());
+    let e = sample::length_at(l.a, 2, queue.len());
     let answer = build::start(
         (l.a % 0x1_0000_0000) as u32,
         &keys[..a],
         &distances[..b],
-        &leaves[..c],
-        &queue[..d],
+        &firsts[..c],
+        &leaves[..d],
+        &queue[..e],
     );
     same_answer(answer, was, l)
 }
@@ -166,20 +170,23 @@ fn distance(
     s: State,
     keys: &mut [u64],
     distances: &mut [f32],
+    firsts: &mut [u16],
     leaves: &mut [u64],
     queue: &mut [u64],
 ) -> Step {
     let z = s.lengths;
     let a = at_most(z.keys, keys.len());
     let b = at_most(z.distances, distances.len());
-    let c = at_most(z.leaves, leaves.len());
-    let d = at_most(z.queue, queue.len());
+    let c = at_most(z.firsts, firsts.len());
+    let d = at_most(z.leaves, leaves.len());
+    let e = at_most(z.queue, queue.len());
     let answer = build::distance(
         s,
         &mut keys[..a],
         &mut distances[..b],
-        &mut leaves[..c],
-        &mut queue[..d],
+        &mut firsts[..c],
+        &mut leaves[..d],
+        &mut queue[..e],
         sample::float(l.a),
     );
     same_answer(answer, s, l)
@@ -193,6 +200,10 @@ fn distance_at(table: &[f32], at: usize) -> f32 {
     if at < table.len() { table[at] } else { 0.0 }
 }
 
+fn first_at(table: &[u16], at: usize) -> u16 {
+    if at < table.len() { table[at] } else { 0 }
+}
+
 fn same_keys(l: Line, keys: &[u64], leaves: &[u64], queue: &[u64]) -> bool {
     let at = l.a as usize;
     if key_at(keys, at) != l.x {
@@ -204,12 +215,27 @@ fn same_keys(l: Line, keys: &[u64], leaves: &[u64], queue: &[u64]) -> bool {
     key_at(queue, at) == l.z
 }
 
+fn same_node(l: Line, distances: &[f32], firsts: &[u16]) -> bool {
+    let at = l.a as usize;
+    if !sample::is_float(distance_at(distances, at), l.x) {
+        return false;
+    }
+    first_at(firsts, at) as u64 == l.y
+}
+
 // A line that changes no table: of a place in them, or of keys.
-fn reads(l: Line, keys: &[u64], distances: &[f32], leaves: &[u64], queue: &[u64]) -> bool {
+fn reads(
+    l: Line,
+    keys: &[u64],
+    distances: &[f32],
+    firsts: &[u16],
+    leaves: &[u64],
+    queue: &[u64],
+) -> bool {
     let op = l.op;
     match op {
         14 => same_keys(l, keys, leaves, queue),
-        15 => sample::is_float(distance_at(distances, l.a as usize), l.x),
+        15 => same_node(l, distances, firsts),
         _ => agrees(l),
     }
 }
@@ -236,6 +262,7 @@ fn idle() -> State {
         lengths: Lengths {
             keys: 0,
             distances: 0,
+            firsts: 0,
             leaves: 0,
             queue: 0,
         },
@@ -245,6 +272,7 @@ fn idle() -> State {
 fn replay() -> Tally {
     let mut keys = [0u64; 1024];
     let mut distances = [0.0f32; 1024];
+    let mut firsts = [0u16; 1024];
     let mut leaves = [0u64; 1024];
     let mut queue = [0u64; 1024];
     let mut state = idle();
@@ -259,22 +287,31 @@ fn replay() -> Tally {
         if l.op == START {
             keys = [0u64; 1024];
             distances = [0.0f32; 1024];
+            firsts = [0u16; 1024];
             leaves = [0u64; 1024];
             queue = [0u64; 1024];
-            let step = start(l, state, &keys, &distances, &leaves, &queue);
+            let step = start(l, state, &keys, &distances, &firsts, &leaves, &queue);
             state = step.state;
             let more = sample::counted(tally, l.op, step.same);
             tally = more;
             left -= 1;
         } else {
             if l.op == DISTANCE {
-                let step = distance(l, state, &mut keys, &mut distances, &mut leaves, &mut queue);
+                let step = distance(
+                    l,
+                    state,
+                    &mut keys,
+                    &mut distances,
+                    &mut firsts,
+                    &mut leaves,
+                    &mut queue,
+                );
                 state = step.state;
                 let more = sample::counted(tally, l.op, step.same);
                 tally = more;
                 left -= 1;
             } else {
-                let same = reads(l, &keys, &distances, &leaves, &queue);
+                let same = reads(l, &keys, &distances, &firsts, &leaves, &queue);
                 let more = sample::counted(tally, l.op, same);
                 tally = more;
                 left -= 1;

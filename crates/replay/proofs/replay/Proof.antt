@@ -10,17 +10,17 @@ abbrev Whole : {A : Type 0} → List A → Type 0
 Whole xs = length xs ≡ 1024
 
 abbrev Inv-loop : tie.InvT-loop
-Inv-loop keys₀ distances₀ leaves₀ queue₀ state₀ tally₀ left₀ keys distances leaves queue state tally left =
-    Whole keys × Whole distances × Whole leaves × Whole queue
+Inv-loop keys₀ distances₀ firsts₀ leaves₀ queue₀ state₀ tally₀ left₀ keys distances firsts leaves queue state tally left =
+    Whole keys × Whole distances × Whole firsts × Whole leaves × Whole queue
 
 abbrev μ-loop : tie.MeasureT-loop
-μ-loop keys₀ distances₀ leaves₀ queue₀ state₀ tally₀ left₀ keys distances leaves queue state tally left = left
+μ-loop keys₀ distances₀ firsts₀ leaves₀ queue₀ state₀ tally₀ left₀ keys distances firsts leaves queue state tally left = left
 
 idle-requires : tie.Need-idle-requires Inv-loop μ-loop
 idle-requires c κs = search needs
 
 loop-holds : tie.Need-loop-holds Inv-loop μ-loop
-loop-holds c = (refl, refl, refl, refl)
+loop-holds c = (refl, refl, refl, refl, refl)
 
 read-line-requires : tie.Need-read-line-requires Inv-loop μ-loop
 read-line-requires c κs = search needs
@@ -39,6 +39,9 @@ slice-aggregate-start-3 c = search needs
 
 slice-aggregate-start-4 : tie.Need-slice-aggregate-start-4 Inv-loop μ-loop
 slice-aggregate-start-4 c = search needs
+
+slice-aggregate-start-5 : tie.Need-slice-aggregate-start-5 Inv-loop μ-loop
+slice-aggregate-start-5 c = search needs
 
 start-requires : tie.Need-start-requires Inv-loop μ-loop
 start-requires c κs = search needs
@@ -67,6 +70,9 @@ slice-aggregate-distance-3 c = search needs
 slice-aggregate-distance-4 : tie.Need-slice-aggregate-distance-4 Inv-loop μ-loop
 slice-aggregate-distance-4 c = search needs
 
+slice-aggregate-distance-5 : tie.Need-slice-aggregate-distance-5 Inv-loop μ-loop
+slice-aggregate-distance-5 c = search needs
+
 distance-requires : tie.Need-distance-requires Inv-loop μ-loop
 distance-requires c κs = search needs
 
@@ -93,6 +99,9 @@ slice-aggregate-reads-3 c = search needs
 
 slice-aggregate-reads-4 : tie.Need-slice-aggregate-reads-4 Inv-loop μ-loop
 slice-aggregate-reads-4 c = search needs
+
+slice-aggregate-reads-5 : tie.Need-slice-aggregate-reads-5 Inv-loop μ-loop
+slice-aggregate-reads-5 c = search needs
 
 reads-requires : tie.Need-reads-requires Inv-loop μ-loop
 reads-requires c κs = search needs
@@ -126,6 +135,7 @@ replay-spec =
     slice-aggregate-start-2
     slice-aggregate-start-3
     slice-aggregate-start-4
+    slice-aggregate-start-5
     start-requires
     counted-requires
     sub-left
@@ -135,6 +145,7 @@ replay-spec =
     slice-aggregate-distance-2
     slice-aggregate-distance-3
     slice-aggregate-distance-4
+    slice-aggregate-distance-5
     distance-requires
     counted-requires-2
     sub-left-2
@@ -144,6 +155,7 @@ replay-spec =
     slice-aggregate-reads-2
     slice-aggregate-reads-3
     slice-aggregate-reads-4
+    slice-aggregate-reads-5
     reads-requires
     counted-requires-3
     sub-left-3
