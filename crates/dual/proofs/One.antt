@@ -12,6 +12,8 @@ use lib.Seq.{ext-getD}
 use Rattle.morton.specs.Vertex.{isInner, sideOf}
 use Rattle.morton.proofs.One.{OnlyOne, equal}
 use Rattle.tree.specs.Tree.{Tree, Sound}
+use Rattle.tree.specs.Down.{Nodes}
+use Rattle.tree.proofs.Finding.{nodes}
 use Rattle.tree.proofs.One.{deepest-key, deepest-distance, deepest-finite}
 use Rattle.dual.specs.declared.Dual.{Dual}
 use Rattle.dual.specs.declared.SlabAnswer.{SlabAnswer}
@@ -68,7 +70,7 @@ dual-finite t L v n keys distances (S, _, _, c) i h = deepest-finite t S (c .ent
 
 -- ---- dual cells of a tree that is trusted
 
-module _ {ks : List ℕ} {ds : List Float} {q : ℕ} {k₁ k₂ : List ℕ} {d₁ d₂ : List Float} {n₁ n₂ : ℕ} (a : Around ks ds q k₁ d₁ n₁) (b : Around ks ds q k₂ d₂ n₂) where
+module _ {ns : Nodes} {ds : List Float} {q : ℕ} {k₁ k₂ : List ℕ} {d₁ d₂ : List Float} {n₁ n₂ : ℕ} (a : Around ns ds q k₁ d₁ n₁) (b : Around ns ds q k₂ d₂ n₂) where
   around-keys : k₁ ≡ k₂
   around-keys = ext-getD 0 k₁ k₂ (a .eight-keys ∙ sym (b .eight-keys))
       (λ i h. let l : i < 8 = omega (arith, a .eight-keys) in a .key i l ∙ sym (b .key i l))
@@ -80,18 +82,18 @@ module _ {ks : List ℕ} {ds : List Float} {q : ℕ} {k₁ k₂ : List ℕ} {d�
 not-none : (ks : List ℕ) (L v : ℕ) → isInner L v ≡ true → (length ks ≡ 1 → ⊥) → NoCell ks L v → ⊥
 not-none ks L v e alone w = ⊎-elim (λ f. true≢false (sym e ∙ f)) alone w
 
-pub dual-cell-trusting-one : (ks : List ℕ) (ds : List Float) (L v : ℕ) → OnlyOne (λ (r : Dual). TrustingSays ks ds L v (r .keys) (r .distances) (r .tried))
-dual-cell-trusting-one ks ds L v r s p q = go (r .tried) (s .tried) refl refl p q
+pub dual-cell-trusting-one : (ns : Nodes) (ds : List Float) (L v : ℕ) → OnlyOne (λ (r : Dual). TrustingSays ns ds L v (r .keys) (r .distances) (r .tried))
+dual-cell-trusting-one ns ds L v r s p q = go (r .tried) (s .tried) refl refl p q
   where
-    go : (a b : Tried) → r .tried ≡ a → s .tried ≡ b → TrustingSays ks ds L v (r .keys) (r .distances) a → TrustingSays ks ds L v (s .keys) (s .distances) b → r ≡ s
+    go : (a b : Tried) → r .tried ≡ a → s .tried ≡ b → TrustingSays ns ds L v (r .keys) (r .distances) a → TrustingSays ns ds L v (s .keys) (s .distances) b → r ≡ s
     go (Keys n) (Keys m) e f (_, _, c) (_, _, d) = same r s (e ∙ ap Keys (c .count ∙ sym (d .count)) ∙ sym f) (around-keys c d) (around-distances c d)
-    go (Keys n) (Refused k) e f (i, alone, _) (_, _, w, _) = absurd (not-none ks L v i alone w)
-    go (Refused j) (Keys n) e f (_, _, w, _) (i, alone, _) = absurd (not-none ks L v i alone w)
+    go (Keys n) (Refused k) e f (i, alone, _) (_, _, w, _) = absurd (not-none (ns .keys) L v i alone w)
+    go (Refused j) (Keys n) e f (_, _, w, _) (i, alone, _) = absurd (not-none (ns .keys) L v i alone w)
     go (Refused j) (Refused k) e f (xs, ds, _, four) (xs', ds', _, four') = same r s (e ∙ ap Refused (four ∙ sym four') ∙ sym f) (xs ∙ sym xs') (ds ∙ sym ds')
 
 -- of a sound tree, what a dual cell's call may answer is what the trusting one answers
 pub trusting-is-dual-cell : (t : Tree) → Sound t → (L v : ℕ) → v < 2 ^ 64 → (r s : Dual)
-    → DualSays t L v (r .keys) (r .distances) (r .tried) → TrustingSays (t .keys) (t .distances) L v (s .keys) (s .distances) (s .tried) → r ≡ s
+    → DualSays t L v (r .keys) (r .distances) (r .tried) → TrustingSays (nodes t) (t .distances) L v (s .keys) (s .distances) (s .tried) → r ≡ s
 trusting-is-dual-cell t S L v word r s p q = dual-cell-one t L v r s p (trusting-dual t S L v word (s .keys) (s .distances) (s .tried) q)
 
 -- ---- slabs

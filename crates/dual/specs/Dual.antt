@@ -13,7 +13,8 @@ use Rattle.tree.specs.Tree.{Tree, Sound}
 use Rattle.tree.specs.declared.Lookup.{Lookup}
 use Rattle.tree.specs.declared.Lookup.the-variants as lookup
 use Rattle.tree.specs.declared.Lookup.the-variants.{Found, Nothing}
-use Rattle.tree.specs.Climb.{Deepest, climbOf, triedIn}
+use Rattle.tree.specs.Down.{Nodes}
+use Rattle.tree.specs.Climb.{Deepest, trustingOf, triedIn}
 use Rattle.dual.specs.declared.Tried.{Tried}
 use Rattle.dual.specs.declared.Tried.the-variants.{Keys, Refused}
 
@@ -65,25 +66,25 @@ distanceIn (Nothing tried) = ofBits binary32 0
 distanceIn (lookup.Refused n) = ofBits binary32 0
 
 -- The lookup for side i of a vertex that is q at its level.
-abbrev pub climbAt : List ℕ → List Float → ℕ → ℕ → Lookup
-climbAt ks ds q i = climbOf ks ds (sub q i)
+abbrev pub lookupAt : Nodes → List Float → ℕ → ℕ → Lookup
+lookupAt ns ds q i = trustingOf ns ds (sub q i)
 
 -- All eight, and the sum of keys tried.
-pub record Around (ks : List ℕ) (ds : List Float) (q : ℕ) (keys : List ℕ) (distances : List Float) (tried : ℕ) : Type 0 where
+pub record Around (ns : Nodes) (ds : List Float) (q : ℕ) (keys : List ℕ) (distances : List Float) (tried : ℕ) : Type 0 where
   pub eight-keys : length keys ≡ 8
   pub eight-distances : length distances ≡ 8
-  pub key : (i : ℕ) → i < 8 → getD keys i 0 ≡ keyIn (climbAt ks ds q i)
-  pub distance : (i : ℕ) → i < 8 → getD distances i nan ≡ distanceIn (climbAt ks ds q i)
-  pub count : tried ≡ sum (λ i. triedIn (climbAt ks ds q i)) 8
+  pub key : (i : ℕ) → i < 8 → getD keys i 0 ≡ keyIn (lookupAt ns ds q i)
+  pub distance : (i : ℕ) → i < 8 → getD distances i nan ≡ distanceIn (lookupAt ns ds q i)
+  pub count : tried ≡ sum (λ i. triedIn (lookupAt ns ds q i)) 8
 
-abbrev pub AroundSays : List ℕ → List Float → ℕ → List ℕ → List Float → Tried → Type 0
-AroundSays ks ds q keys distances (Keys n) = Around ks ds q keys distances n
-AroundSays ks ds q keys distances (Refused k) = ⊥
+abbrev pub AroundSays : Nodes → List Float → ℕ → List ℕ → List Float → Tried → Type 0
+AroundSays ns ds q keys distances (Keys n) = Around ns ds q keys distances n
+AroundSays ns ds q keys distances (Refused k) = ⊥
 
--- Of a tree that is trusted to be sound: refusal 4 where there is no cell, else what the climbs from the eight sides come to.
-abbrev pub TrustingSays : List ℕ → List Float → ℕ → ℕ → List ℕ → List Float → Tried → Type 0
-TrustingSays ks ds L v keys distances (Keys n) = (isInner L v ≡ true) × (length ks ≡ 1 → ⊥) × Around ks ds (v / 8 ^ (deepest - L)) keys distances n
-TrustingSays ks ds L v keys distances (Refused k) = (keys ≡ noKeys) × (distances ≡ noDistances) × NoCell ks L v × (k ≡ 4)
+-- Of a tree that is trusted to be sound: refusal 4 where there is no cell, else what the lookups for the eight sides come to.
+abbrev pub TrustingSays : Nodes → List Float → ℕ → ℕ → List ℕ → List Float → Tried → Type 0
+TrustingSays ns ds L v keys distances (Keys n) = (isInner L v ≡ true) × (length (ns .keys) ≡ 1 → ⊥) × Around ns ds (v / 8 ^ (deepest - L)) keys distances n
+TrustingSays ns ds L v keys distances (Refused k) = (keys ≡ noKeys) × (distances ≡ noDistances) × NoCell (ns .keys) L v × (k ≡ 4)
 
 -- One entry.
 pub record EntrySays (answer : Lookup) (key : ℕ) (distance : Float) (tried : ℕ) : Type 0 where

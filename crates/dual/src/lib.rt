@@ -4,6 +4,7 @@ use morton::Key;
 use tree::Lookup;
 ghost use mathlib.Core.Path.{_≡_};
 ghost use Rattle.tree.specs.Tree.{treeOf};
+ghost use Rattle.tree.specs.Down.{nodesOf};
 ghost use Rattle.dual.specs.Slab.{slabAnswer};
 ghost use Rattle.dual.specs.Dual.{DualSays, EntrySays, RefusedSays, AroundSays, TrustingSays};
 
@@ -61,8 +62,8 @@ fn entry_of(answer: Lookup) -> Entry
 }
 
 // The entries on the eight sides of a vertex that is `middle` at its level, each written anew.
-fn around(keys: &[u64], distances: &[f32], middle: u64) -> Dual
-    ensures { λ r. ⌜ AroundSays (now (keys .entry)) (now (distances .entry)) middle (r .keys) (r .distances) (r .tried) ⌝ }
+fn around(keys: &[u64], distances: &[f32], firsts: &[u16], middle: u64) -> Dual
+    ensures { λ r. ⌜ AroundSays (nodesOf (now (keys .entry)) (now (firsts .entry))) (now (distances .entry)) middle (r .keys) (r .distances) (r .tried) ⌝ }
 {
     let mut found = [0u64; 8];
     let mut theirs = [0.0f32; 8];
@@ -70,7 +71,7 @@ fn around(keys: &[u64], distances: &[f32], middle: u64) -> Dual
     let mut i: usize = 0;
     while i < 8 {
         let side = Key { code: middle }.sub(Key { code: i as u64 });
-        let e = entry_of(tree::climb(keys, distances, side.code));
+        let e = entry_of(tree::look_up_trusting(keys, distances, firsts, side.code));
         found[i] = e.key;
         theirs[i] = e.distance;
         tried += e.tried;
@@ -94,10 +95,16 @@ fn refused(number: u32) -> Dual
     }
 }
 
-// The dual cell, for one who knows that the tree is sound: who reads much checks it once. Of other tables, what the same climbs come to. A
+// The dual cell, for one who knows that the tree is sound: who reads much checks it once. Of other tables, what the same lookups come to. A
 // table of one key is the root alone, which has none.
-pub fn dual_cell_trusting(keys: &[u64], distances: &[f32], vertex: u64, level: u32) -> Dual
-    ensures { λ r. ⌜ TrustingSays (now (keys .entry)) (now (distances .entry)) level vertex (r .keys) (r .distances) (r .tried) ⌝ }
+pub fn dual_cell_trusting(
+    keys: &[u64],
+    distances: &[f32],
+    firsts: &[u16],
+    vertex: u64,
+    level: u32,
+) -> Dual
+    ensures { λ r. ⌜ TrustingSays (nodesOf (now (keys .entry)) (now (firsts .entry))) (now (distances .entry)) level vertex (r .keys) (r .distances) (r .tried) ⌝ }
 {
     let v = Key { code: vertex };
     if !v.is_inner(level) {
@@ -106,17 +113,25 @@ pub fn dual_cell_trusting(keys: &[u64], distances: &[f32], vertex: u64, level: u
     if keys.len() == 1 {
         return refused(4);
     }
-    around(keys, distances, vertex >> (63 - level * 3))
+    around(keys, distances, firsts, vertex >> (63 - level * 3))
 }
 
 // The dual cell of an inner vertex at a level: entry i is the deepest ancestor of side i.
-pub fn dual_cell(keys: &[u64], distances: &[f32], leaves: &[u64], vertex: u64, level: u32) -> Dual
-    ensures { λ r. ⌜ DualSays (treeOf (now (keys .entry)) (now (distances .entry)) (now (leaves .entry))) level vertex (r .keys) (r .distances) (r .tried) ⌝ }
+pub fn dual_cell(
+    keys: &[u64],
+    distances: &[f32],
+    firsts: &[u16],
+    leaves: &[u64],
+    vertex: u64,
+    level: u32,
+) -> Dual
+    ensures { λ r. ⌜
+        DualSays (treeOf (now (keys .entry)) (now (distances .entry)) (now (firsts .entry)) (now (leaves .entry))) level vertex (r .keys) (r .distances) (r .tried) ⌝ }
 {
-    if !tree::sound(keys, distances, leaves) {
+    if !tree::sound(keys, distances, firsts, leaves) {
         return refused(11);
     }
-    dual_cell_trusting(keys, distances, vertex, level)
+    dual_cell_trusting(keys, distances, firsts, vertex, level)
 }
 
 // The slab of the dual cell of a vertex at a level: with exponent s the cube has 2^s slabs along z.

@@ -4,14 +4,15 @@ use Prim.Native.Nat.{_-_, _≤_}
 use mathlib.Core.Path.{refl}
 use native.Mathlib.Omega.{arith}
 use borrow.Author.Needs.{needs}
+use Rattle.tree.specs.Down.{nodesOf}
 use Rattle.dual.proofs.around.Statement.{statement}
 use Rattle.dual.proofs.around.Tie as tie
 
 abbrev Inv-loop : tie.InvT-loop
-Inv-loop keys distances middle found₀ theirs₀ tried₀ i₀ found theirs tried i = (i ≤ 8) × Filled keys distances middle i found theirs tried
+Inv-loop keys distances firsts middle found₀ theirs₀ tried₀ i₀ found theirs tried i = (i ≤ 8) × Filled (nodesOf keys firsts) distances middle i found theirs tried
 
 abbrev μ-loop : tie.MeasureT-loop
-μ-loop keys distances middle found₀ theirs₀ tried₀ i₀ found theirs tried i = 8 - i
+μ-loop keys distances firsts middle found₀ theirs₀ tried₀ i₀ found theirs tried i = 8 - i
 
 loop-holds : tie.Need-loop-holds Inv-loop μ-loop
 loop-holds c = (omega arith, filled-none _ _ _ _ _ refl refl)
@@ -19,8 +20,8 @@ loop-holds c = (omega arith, filled-none _ _ _ _ _ refl refl)
 sub-requires : tie.Need-sub-requires Inv-loop μ-loop
 sub-requires c κs = search needs
 
-climb-requires : tie.Need-climb-requires Inv-loop μ-loop
-climb-requires c κs = search needs
+look-up-trusting-requires : tie.Need-look-up-trusting-requires Inv-loop μ-loop
+look-up-trusting-requires c κs = search needs
 
 entry-of-requires : tie.Need-entry-of-requires Inv-loop μ-loop
 entry-of-requires c κs = search needs
@@ -38,7 +39,7 @@ array-write-theirs : tie.Need-array-write-theirs Inv-loop μ-loop
 array-write-theirs c = search needs
 
 add-tried : tie.Need-add-tried Inv-loop μ-loop
-add-tried c = record { fits = filled-room _ _ _ (c .before .before .before .before .before .loop .i) _ _ _ _ _ _ (omega arith) (c .before .before .before .before .before .loop .inv .1) (entry-at _ _ _ (c .before .before .before .before .before .loop .i) _ _ _ _ _ (c .before .before .before .sub .ensures) (c .before .before .climb .ensures) (c .before .entry-of .ensures)) }
+add-tried c = record { fits = filled-room _ _ _ (c .before .before .before .before .before .loop .i) _ _ _ _ _ _ (omega arith) (c .before .before .before .before .before .loop .inv .1) (entry-at _ _ _ (c .before .before .before .before .before .loop .i) _ _ _ _ _ (c .before .before .before .sub .ensures) (c .before .before .look-up-trusting .ensures) (c .before .entry-of .ensures)) }
 
 add-i : tie.Need-add-i Inv-loop μ-loop
 add-i c = search needs
@@ -47,7 +48,7 @@ loop-less : tie.Need-loop-less Inv-loop μ-loop
 loop-less c = search needs
 
 loop-again : tie.Need-loop-again Inv-loop μ-loop
-loop-again c = (omega arith, filled-more _ _ _ (c .before .before .before .before .before .loop .i) _ _ _ _ _ _ (omega arith) (c .before .before .before .before .before .loop .inv .1) (entry-at _ _ _ (c .before .before .before .before .before .loop .i) _ _ _ _ _ (c .before .before .before .sub .ensures) (c .before .before .climb .ensures) (c .before .entry-of .ensures)))
+loop-again c = (omega arith, filled-more _ _ _ (c .before .before .before .before .before .loop .i) _ _ _ _ _ _ (omega arith) (c .before .before .before .before .before .loop .inv .1) (entry-at _ _ _ (c .before .before .before .before .before .loop .i) _ _ _ _ _ (c .before .before .before .sub .ensures) (c .before .before .look-up-trusting .ensures) (c .before .entry-of .ensures)))
 
 returns : tie.Need-returns Inv-loop μ-loop
 returns c = filled-all _ _ _ (c .before .loop .i) _ _ _ (omega arith) (omega arith) (c .before .loop .inv .1)
@@ -60,7 +61,7 @@ around-spec =
     μ-loop
     loop-holds
     sub-requires
-    climb-requires
+    look-up-trusting-requires
     entry-of-requires
     mul-found
     array-write-found
