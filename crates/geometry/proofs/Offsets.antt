@@ -30,7 +30,7 @@ xor-bit a x y =
     ap (λ (n : ℕ). n % 2) (xor-shr x y a) ∙ omega (arith, xor-step (x / 2 ^ a) (y / 2 ^ a), differ-bits (bit a x) (bit a y) (bit-le a x) (bit-le a y))
 
 -- the offset q taken from 7
-rest-bit : (q : ℕ) → q < 8 → (a : ℕ) → a < 3 → bit a (7 - q) ≡ 1 - bit a q
+pub rest-bit : (q : ℕ) → q < 8 → (a : ℕ) → a < 3 → bit a (7 - q) ≡ 1 - bit a q
 rest-bit q h = axes (λ a. bit a (7 - q) ≡ 1 - bit a q) (omega arith) (omega arith) (omega arith)
 
 kept-bit : (a o q : ℕ) → a < 3 → q < 8 → bit a (bitAnd o (7 - q)) ≡ bit a o - bit a q

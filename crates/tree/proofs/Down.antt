@@ -102,6 +102,15 @@ module _ (n : Nodes) where
       go true h = omega arith
       go false h = omega arith
 
+  pub over-pos : (l x : ℕ) → Cell l x → 0 < over n l x
+  unfolding over
+  over-pos zero x c = omega (arith, c .low)
+  over-pos (suc l) x c = go (isSplit n l (x / 8)) (over-pos l (x / 8) (record { low = omega (arith, c .low, pow-suc 8 l); high = omega (arith, c .high, pow-suc 8 l) }))
+    where
+      go : (r : Bool) → 0 < over n l (x / 8) → 0 < if₀ r x (over n l (x / 8))
+      go true h = omega (arith, c .low, eight-pos (suc l))
+      go false h = h
+
   -- a node of the cell's own level is that cell
   pub over-same : (l x : ℕ) → Cell l x → 8 ^ l ≤ over n l x → over n l x ≡ x
   unfolding over

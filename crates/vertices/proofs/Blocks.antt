@@ -1,31 +1,32 @@
 -- The block of a child from that of its parent, where the walk ends, and what the tables hold, on any table of keys. Assumes nothing.
-use Prim.Native.Nat.{ℕ, zero, suc, _+_, _*_, _-_, _/_, _%_, _^_, _≤_, _<_}
+use Prim.Native.Nat.{ℕ, zero, suc, _+_, _*_, _-_, _/_, _%_, _^_, _≤_, _<_, min}
 use mathlib.Core.Path.{_≡_, refl, sym, _∙_, ap, ap₂, subst}
 use mathlib.Core.Bool.{Bool, true, false, cond, _&&_, _||_, true≢false}
 use mathlib.Core.List.{List, [], _∷_, _++_}
 use native.Mathlib.Nat.{mod-eq-of-lt, mul-le-mul-right, pow-suc, add-zero, add-suc, suc-add}
 use native.Mathlib.Numerals.{add-one}
-use native.Mathlib.Decide.{decLt}
+use native.Mathlib.Decide.{decLt, ℕ-discrete}
 use native.Mathlib.Omega.{arith}
-use lib.Bits.{bitAnd, bitXor}
+use lib.Bits.{bitAnd, bitXor, and-le-l}
 use lib.Dec.{eqb, leb, ltb}
 use lib.ListN.{length, getD, set, length-append}
 use lib.Seq.{sets, getD-set-same, getD-set-other}
-use borrow.Author.Tests.{ltb-true, lt-ltb, leb-true, le-leb, eqb-false, ne-eqb}
+use borrow.Author.Tests.{ltb-true, lt-ltb, leb-true, le-leb, eqb-true, eqb-false, eq-eqb, ne-eqb}
 use Rattle.morton.specs.Level.{deepest, limit, if₀, Cell}
 use Rattle.morton.proofs.Cells.{child-cell}
+use Rattle.morton.proofs.Fields.{bit-le, coord-child}
 use Rattle.morton.proofs.Levels.{and-true, cell-lt, eight-pos, eight-mono}
 use Rattle.morton.proofs.Vertices.{up-pow, down-cell}
 use Rattle.tree.specs.Tree.{Decides}
 use Rattle.geometry.specs.Near.{near, inCube}
 use Rattle.vertices.specs.Walk.{splitAt, entry, placeAt, some, all, Spot, inTurn, lowCorner, divided, meets, ending, walked, verticesOf, levelsOf}
-use Rattle.vertices.specs.Block.{marked, Here, Small, BelowMarks, Near, loweredMark, loweredPlace, loweredAt, LoweredMarks, LoweredGaps, LoweredAt, Touched, Laid}
+use Rattle.vertices.specs.Block.{marked, Here, Small, BelowMarks, Near, loweredMark, loweredPlace, loweredAt, LoweredMarks, LoweredAt, Touched, Low, Laid}
 use Rattle.tree.specs.Down.{Nodes, firstAt, steps, reach, isSplit}
 use Rattle.tree.proofs.Down.{steps-in, split-steps, over-split, place-split}
-use Rattle.morton.specs.Field.{sub}
+use Rattle.morton.specs.Field.{bit, coord, sub}
 use Rattle.morton.proofs.Sides.{sub-key}
-use Rattle.geometry.proofs.Offsets.{Within, kept-lt, flip-lt, near-cell, in-cube}
-use Rattle.vertices.proofs.Entries.{entry-in, entry-out, entry-lt, place-in, place-most, split-low, split-over, from, fromPlace, entry-step, place-step, split-step, node-up, node-down, fine-up, fine-down}
+use Rattle.geometry.proofs.Offsets.{Within, and-bit, rest-bit, kept-lt, flip-lt, near-cell, in-cube, cube-in}
+use Rattle.vertices.proofs.Entries.{entry-in, entry-out, entry-lt, place-in, place-most, split-low, split-over, entry-node, node-within, from, fromPlace, place-step, split-step, fine-up, fine-down}
 use Rattle.vertices.proofs.Marks.{marked-zero, some-marked}
 
 -- ---- some and all
@@ -72,24 +73,6 @@ all-is f (suc n) e i h =
     elim (decLt i n) [ yes l ↦ all-is f n (b .0) i l | no l ↦ let q : n ≡ i = omega arith in subst (λ (j : ℕ). f j ≡ true) q (b .1) ]
 
 -- ---- the entries of a child's block, as the code has them
-
-module _ (mask below q o : ℕ) where
-  pub mark-yes : marked mask (bitAnd o (7 - q)) ≡ true → loweredMark mask below q o ≡ marked below (8 * bitAnd o (7 - q) + bitXor q o)
-  unfolding loweredMark
-  mark-yes e = ap (λ (r : Bool). r && marked below (8 * bitAnd o (7 - q) + bitXor q o)) e
-
-  pub mark-no : marked mask (bitAnd o (7 - q)) ≡ false → loweredMark mask below q o ≡ false
-  unfolding loweredMark
-  mark-no e = ap (λ (r : Bool). r && marked below (8 * bitAnd o (7 - q) + bitXor q o)) e
-
-  -- a child that no mark is seen for
-  pub mark-unseen : marked below (8 * bitAnd o (7 - q) + bitXor q o) ≡ false → loweredMark mask below q o ≡ false
-  unfolding loweredMark
-  mark-unseen e = ap (λ (r : Bool). marked mask (bitAnd o (7 - q)) && r) e ∙ and-false (marked mask (bitAnd o (7 - q)))
-    where
-      and-false : (s : Bool) → (s && false) ≡ false
-      and-false true = refl
-      and-false false = refl
 
 -- an array filled from the front
 pub filled-more : (xs : List ℕ) (o x : ℕ) (f : ℕ → ℕ) → o < length xs → ((i : ℕ) → i < o → getD xs i 0 ≡ f i) → x ≡ f o
@@ -185,15 +168,53 @@ side-entry ks l c o hl cc ho e = go (inCube l c o) refl
         sub-key l c o (omega arith) cc (omega arith) (in-cube l c o i) ∙ sym (entry-in ks l c o i ∙ over-split ks l (near l c o) s)
     go false i = absurd (true≢false (sym e ∙ split-low ks l (entry ks l c o) (omega (arith, entry-out ks l c o i, eight-pos l))))
 
-zero-as : (m n : ℕ) → (0 < m → 0 < n) → (0 < n → 0 < m) → eqb m 0 ≡ eqb n 0
-zero-as zero zero f g = refl
-zero-as zero (suc n) f g = absurd (omega (arith, g (omega arith)))
-zero-as (suc m) zero f g = absurd (omega (arith, f (omega arith)))
-zero-as (suc m) (suc n) f g = ne-eqb (suc m) 0 (λ e. omega arith) ∙ sym (ne-eqb (suc n) 0 (λ e. omega arith))
+-- ---- the sides of the cube
+
+-- the sides at which a child lies
+low-step : (l c low q : ℕ) → q < 8 → Low l c low → Low (suc l) (8 * c + q) (bitAnd low (7 - q))
+unfolding marked
+low-step l c low q hq h =
+    record {
+      small = omega (arith, and-le-l low (7 - q), h .small);
+      marks = λ a l3. one-bit (bit a low) (bit a q) (coord l c a) _ _ (bit-le a low) (bit-le a q) (h .marks a l3)
+          (and-bit a low (7 - q) ∙ ap (min (bit a low)) (rest-bit q hq a l3)) (coord-child l c q a (omega arith) l3);
+    }
+  where
+    one-bit : (x y z m n : ℕ) → x ≤ 1 → y ≤ 1 → eqb x 1 ≡ eqb z 0 → m ≡ min x (1 - y) → n ≡ y + 2 * z → eqb m 1 ≡ eqb n 0
+    one-bit x zero zero m n hx hy e f g = eq-eqb m 1 (omega (arith, eqb-true x 1 e)) ∙ sym (eq-eqb n 0 (omega arith))
+    one-bit x zero (suc z) m n hx hy e f g = ne-eqb m 1 (λ t. eqb-false x 1 (e ∙ ne-eqb (suc z) 0 (λ t. omega arith)) (omega arith)) ∙ sym (ne-eqb n 0 (λ t. omega arith))
+    one-bit x (suc y) z m n hx hy e f g = ne-eqb m 1 (λ t. omega arith) ∙ sym (ne-eqb n 0 (λ t. omega arith))
+
+module _ (l c low : ℕ) (h : Low l c low) where
+  -- a cell at none has all cells round its low corner in the cube
+  low-none : low ≡ 0 → (o : ℕ) → inCube l c o ≡ true
+  unfolding Within
+  low-none z o = cube-in l c o (λ a l3. pos a (coord l c a) (sym (h .marks a l3) ∙ ap (λ (m : ℕ). marked m a) z ∙ marked-zero a))
+    where
+      pos : (a x : ℕ) → eqb x 0 ≡ false → bit a o ≤ x
+      pos a zero e = absurd (true≢false e)
+      pos a (suc x) e = omega (arith, bit-le a o)
+
+  -- and only such a cell has
+  none-low : Within l c 7 → low ≡ 0
+  unfolding Within
+  none-low w = go (ℕ-discrete low 0)
+    where
+      go : Dec (low ≡ 0) → low ≡ 0
+      go (yes z) = z
+      go (no n) =
+          let s = some-marked 3 low (h .small) n in
+          absurd (omega (arith, eqb-true (coord l c (s .0)) 0 (sym (h .marks (s .0) (s .1)) ∙ s .2), w (s .0) (s .1), seven (s .0) (s .1)))
+        where
+          seven : (a : ℕ) → a < 3 → bit a 7 ≡ 1
+          seven zero l3 = refl
+          seven (suc zero) l3 = refl
+          seven (suc (suc zero)) l3 = refl
+          seven (suc (suc (suc a))) l3 = absurd (omega arith)
 
 -- ---- a cell
 
-module _ (ks : Nodes) (l c : ℕ) (at : List ℕ) (mask gaps : ℕ) (h : Here ks l c at mask gaps) where
+module _ (ks : Nodes) (l c : ℕ) (at : List ℕ) (mask low : ℕ) (h : Here ks l c at mask low) where
   -- a split entry is the cell that lies that way
   pub here-side : (o : ℕ) → o < 8 → marked mask o ≡ true → sub c o ≡ entry ks l c o
   here-side o ho e = side-entry ks l c o (h .shallow) (h .cell) ho (sym (h .marks o ho) ∙ e)
@@ -209,7 +230,7 @@ module _ (ks : Nodes) (l c : ℕ) (at : List ℕ) (mask gaps : ℕ) (h : Here ks
   here-leaf o ho e = h .stands o ho ∙ ap (λ (r : Bool). if₀ r (firstAt ks (placeAt ks l c o)) (placeAt ks l c o)) e
 
   pub here-near : (most : ℕ) → length (ks .keys) ≤ most → Near at most
-  here-near most k = record { each = λ o ho. go o ho (marked mask o) refl }
+  here-near most k = record { eight-places = h .eight-places; each = λ o ho. go o ho (marked mask o) refl }
     where
       go : (o : ℕ) → o < 8 → (r : Bool) → marked mask o ≡ r → getD at o 0 ≤ most
       go o ho true e = omega (arith, here-split o ho e, split-inside ks l c o (sym (h .marks o ho) ∙ e))
@@ -256,86 +277,68 @@ module _ (ks : Nodes) (l c : ℕ) (at : List ℕ) (mask gaps : ℕ) (h : Here ks
               ∙ here-leaf (bitAnd o (7 - q)) (kept-lt o q ho) e
               ∙ sym (ap (λ (r : Bool). if₀ r (firstAt ks (fromPlace ks l c q o hq ho) + bitXor q o) (fromPlace ks l c q o hq ho)) (sym mark-is ∙ e))
 
-    -- an entry is no node where the parent's is none
-    gap-step : (o : ℕ) → o < 8 → marked gaps (bitAnd o (7 - q)) ≡ eqb (entry ks (suc l) (8 * c + q) o) 0
-    unfolding from
-    gap-step o ho =
-        h .none .marks (bitAnd o (7 - q)) (kept-lt o q ho)
-        ∙ zero-as (entry ks l c (bitAnd o (7 - q))) (entry ks (suc l) (8 * c + q) o) (node-down ks l c q o hq ho) (node-up ks l c q o hq ho)
-
     module _ (below : ℕ) (bm : BelowMarks ks c at mask below) where
-      mark-step : (o : ℕ) → o < 8 → loweredMark mask below q o ≡ splitAt ks (suc l) (entry ks (suc l) (8 * c + q) o)
-      unfolding from fromPlace
-      mark-step o ho = go (marked mask (bitAnd o (7 - q))) refl
+      mark-step : (o : ℕ) → o < 8 → loweredMark below q o ≡ splitAt ks (suc l) (entry ks (suc l) (8 * c + q) o)
+      unfolding from fromPlace loweredMark
+      mark-step o ho =
+          bm (bitAnd o (7 - q)) (kept-lt o q ho) (bitXor q o) (flip-lt q o hq ho)
+          ∙ go (marked mask (bitAnd o (7 - q))) refl
+          ∙ sym (split-step ks l c q o hq ho)
         where
-          rest : (r : Bool) → marked mask (bitAnd o (7 - q)) ≡ r
-              → (r && steps ks (firstAt ks (fromPlace ks l c q o hq ho) + bitXor q o) (8 * from ks l c q o hq ho + bitXor q o)) ≡ splitAt ks (suc l) (entry ks (suc l) (8 * c + q) o)
-          rest r e =
-              ap (λ (t : Bool). t && steps ks (firstAt ks (fromPlace ks l c q o hq ho) + bitXor q o) (8 * from ks l c q o hq ho + bitXor q o)) (sym e ∙ mark-is o ho) ∙ sym (split-step ks l c q o hq ho)
-
-          go : (r : Bool) → marked mask (bitAnd o (7 - q)) ≡ r → loweredMark mask below q o ≡ splitAt ks (suc l) (entry ks (suc l) (8 * c + q) o)
+          go : (r : Bool) → marked mask (bitAnd o (7 - q)) ≡ r
+              → (marked mask (bitAnd o (7 - q)) && steps ks (getD at (bitAnd o (7 - q)) 0 + bitXor q o) (8 * sub c (bitAnd o (7 - q)) + bitXor q o))
+              ≡ (splitAt ks l (from ks l c q o hq ho) && steps ks (firstAt ks (fromPlace ks l c q o hq ho) + bitXor q o) (8 * from ks l c q o hq ho + bitXor q o))
           go true e =
-              mark-yes mask below q o e
-              ∙ bm (bitAnd o (7 - q)) (kept-lt o q ho) e (bitXor q o) (flip-lt q o hq ho)
-              ∙ ap₂ (λ (m n : ℕ). steps ks (m + bitXor q o) (8 * n + bitXor q o)) (here-split (bitAnd o (7 - q)) (kept-lt o q ho) e) (here-side (bitAnd o (7 - q)) (kept-lt o q ho) e)
-              ∙ rest true e
-          go false e = mark-no mask below q o e ∙ rest false e
+              ap₂ _&&_ (mark-is o ho)
+              (ap₂ (λ (m n : ℕ). steps ks (m + bitXor q o) (8 * n + bitXor q o)) (here-split (bitAnd o (7 - q)) (kept-lt o q ho) e) (here-side (bitAnd o (7 - q)) (kept-lt o q ho) e))
+          go false e =
+              ap (λ (r : Bool). r && steps ks (getD at (bitAnd o (7 - q)) 0 + bitXor q o) (8 * sub c (bitAnd o (7 - q)) + bitXor q o)) e
+              ∙ sym (ap (λ (r : Bool). r && steps ks (firstAt ks (fromPlace ks l c q o hq ho) + bitXor q o) (8 * from ks l c q o hq ho + bitXor q o)) (sym (mark-is o ho) ∙ e))
 
-      module _ (r : ℕ) (lm : LoweredMarks mask below q r) where
+      module _ (r : ℕ) (lm : LoweredMarks below q r) where
         pub child-still : r ≡ 0 → divided ks (suc l) (8 * c + q) ≡ false
         unfolding divided
         child-still z =
             none-is (λ o. splitAt ks (suc l) (entry ks (suc l) (8 * c + q) o)) 8
             (λ o ho. sym (mark-step o ho) ∙ (sym (lm .marks o ho) ∙ (ap (λ (m : ℕ). marked m o) z ∙ marked-zero o)))
 
-        pub here-step : l < limit → (e : List ℕ) → LoweredAt (ks .firsts) at mask r q e → (g : ℕ) → LoweredGaps gaps q g → Here ks (suc l) (8 * c + q) e r g
+        pub here-step : l < limit → (e : List ℕ) → LoweredAt (ks .firsts) at mask r q e → Here ks (suc l) (8 * c + q) e r (bitAnd low (7 - q))
         unfolding loweredAt firstAt
-        here-step hl e la g lg =
+        here-step hl e la =
             record {
               shallow = omega arith;
               cell = child-cell l c q (h .cell) (omega arith);
               small = lm .small;
               marks = λ o ho. lm .marks o ho ∙ mark-step o ho;
-              stands = λ o ho. la o ho ∙ ap (λ (n : ℕ). if₀ (marked r o) (getD (ks .firsts) n 0) n) (place-is o ho);
-              none = record { small = lg .small; marks = λ o ho. lg .marks o ho ∙ gap-step o ho };
+              stands = λ o ho. la .1 o ho ∙ ap (λ (n : ℕ). if₀ (marked r o) (getD (ks .firsts) n 0) n) (place-is o ho);
+              eight-places = la .0;
+              side = low-step l c low q hq (h .side);
             }
 
     -- what is seen of the block tells whether the child's low corner is listed
-    gap-no : (o : ℕ) (ho : o < 8) → 0 < from ks l c q o hq ho → marked gaps (bitAnd o (7 - q)) ≡ false
-    unfolding from
-    gap-no o ho p = h .none .marks (bitAnd o (7 - q)) (kept-lt o q ho) ∙ ne-eqb (entry ks l c (bitAnd o (7 - q))) 0 (λ z. omega arith)
-
-    no-gap : (o : ℕ) (ho : o < 8) → marked gaps (bitAnd o (7 - q)) ≡ false → 0 < from ks l c q o hq ho
-    unfolding from
-    no-gap o ho e =
-        pos (entry ks l c (bitAnd o (7 - q))) (eqb-false (entry ks l c (bitAnd o (7 - q))) 0 (sym (h .none .marks (bitAnd o (7 - q)) (kept-lt o q ho)) ∙ e))
-      where
-        pos : (n : ℕ) → (n ≡ 0 → ⊥) → 0 < n
-        pos zero f = absurd (f refl)
-        pos (suc n) f = omega arith
-
-    touched-meets : Touched gaps mask q → meets ks (suc l) (8 * c + q) ≡ true
+    touched-meets : Touched low mask q → meets ks (suc l) (8 * c + q) ≡ true
     unfolding meets
     touched-meets t =
         let o = t .fine .0 in
         let ho = t .fine .1 in
         ap₂ _&&_
-        (all-if (λ o. ltb 0 (entry ks (suc l) (8 * c + q) o)) 8 (λ o ho. lt-ltb 0 _ (node-down ks l c q o hq ho (no-gap o ho (t .full o ho)))))
+        (all-if (λ o. ltb 0 (entry ks (suc l) (8 * c + q) o)) 8
+        (λ o ho. lt-ltb 0 _ (entry-node ks (suc l) (8 * c + q) o (low-none (suc l) (8 * c + q) _ (low-step l c low q hq (h .side)) (t .full) o))))
         (some-if (λ o. leb (8 ^ suc l) (entry ks (suc l) (8 * c + q) o)) 8 o ho
         (le-leb (8 ^ suc l) _ (fine-down ks l c q o hq ho (sym (mark-is o ho) ∙ t .fine .2))))
 
-    meets-touched : meets ks (suc l) (8 * c + q) ≡ true → Touched gaps mask q
+    meets-touched : meets ks (suc l) (8 * c + q) ≡ true → Touched low mask q
     unfolding meets
     meets-touched e =
         let b = and-true _ _ e in
         let s = some-is (λ o. leb (8 ^ suc l) (entry ks (suc l) (8 * c + q) o)) 8 (b .1) in
         record {
-          full = λ o ho.
-              gap-no o ho (node-up ks l c q o hq ho (ltb-true 0 _ (all-is (λ o. ltb 0 (entry ks (suc l) (8 * c + q) o)) 8 (b .0) o ho)));
+          full = none-low (suc l) (8 * c + q) _ (low-step l c low q hq (h .side))
+              (node-within ks (suc l) (8 * c + q) 7 (ltb-true 0 _ (all-is (λ o. ltb 0 (entry ks (suc l) (8 * c + q) o)) 8 (b .0) 7 (omega arith))));
           fine = (s .0, s .1, mark-is (s .0) (s .1) ∙ fine-up ks l c q (s .0) hq (s .1) (leb-true (8 ^ suc l) _ (s .2)));
         }
 
-    pub meets-is : (r : Bool) → Decides r (Touched gaps mask q) → meets ks (suc l) (8 * c + q) ≡ r
+    pub meets-is : (r : Bool) → Decides r (Touched low mask q) → meets ks (suc l) (8 * c + q) ≡ r
     meets-is true d = touched-meets d
     meets-is false d = go (meets ks (suc l) (8 * c + q)) refl
       where
@@ -344,14 +347,15 @@ module _ (ks : Nodes) (l c : ℕ) (at : List ℕ) (mask gaps : ℕ) (h : Here ks
         go false e = e
 
 -- a child where the walk goes on
-pub step-on : (ks : Nodes) (l c : ℕ) (at : List ℕ) (mask gaps : ℕ) (h : Here ks l c at mask gaps) → l < limit → (q : ℕ) (hq : q < 8) (below : ℕ)
-    → BelowMarks ks c at mask below → (r : ℕ) → LoweredMarks mask below q r → (r ≡ 0 → ⊥) → (e : List ℕ) → LoweredAt (ks .firsts) at mask r q e
-    → (g : ℕ) → LoweredGaps gaps q g → Here ks (l + 1) (8 * c + q) e r g × (divided ks (l + 1) (8 * c + q) ≡ true)
-step-on ks l c at mask gaps h hl q hq below bm r lm nz e la g lg =
-    subst (λ (n : ℕ). Here ks n (8 * c + q) e r g × (divided ks n (8 * c + q) ≡ true)) (sym (add-one l)) (there, here-divided ks (suc l) (8 * c + q) e r g there nz)
+pub step-on : (ks : Nodes) (l c : ℕ) (at : List ℕ) (mask low : ℕ) (h : Here ks l c at mask low) → l < limit → (q : ℕ) (hq : q < 8) (below : ℕ)
+    → BelowMarks ks c at mask below → (r : ℕ) → LoweredMarks below q r → (r ≡ 0 → ⊥) → (e : List ℕ) → LoweredAt (ks .firsts) at mask r q e
+    → Here ks (l + 1) (8 * c + q) e r (bitAnd low (7 - q)) × (divided ks (l + 1) (8 * c + q) ≡ true)
+step-on ks l c at mask low h hl q hq below bm r lm nz e la =
+    subst (λ (n : ℕ). Here ks n (8 * c + q) e r (bitAnd low (7 - q)) × (divided ks n (8 * c + q) ≡ true)) (sym (add-one l))
+    (there, here-divided ks (suc l) (8 * c + q) e r (bitAnd low (7 - q)) there nz)
   where
-    there : Here ks (suc l) (8 * c + q) e r g
-    there = here-step ks l c at mask gaps h q hq below bm r lm hl e la g lg
+    there : Here ks (suc l) (8 * c + q) e r (bitAnd low (7 - q))
+    there = here-step ks l c at mask low h q hq below bm r lm hl e la
 
 -- ---- tables
 

@@ -13,10 +13,10 @@ use borrow.Author.Tests.{leb-true, le-leb, lt-leb}
 use Rattle.morton.specs.Level.{if₀, Cell}
 use Rattle.morton.proofs.Levels.{and-true, eight-pos}
 use Rattle.tree.specs.Down.{Nodes, firstAt, steps, reach, isSplit, over, placeOver}
-use Rattle.tree.proofs.Down.{split-below, reach-down, over-down, over-stay, place-down, place-stay, over-split, place-split, over-le, over-same, place-le}
+use Rattle.tree.proofs.Down.{split-below, reach-down, over-down, over-stay, place-down, place-stay, over-split, place-split, over-le, over-pos, over-same, place-le}
 use Rattle.geometry.specs.Near.{near, inCube}
 use Rattle.vertices.specs.Walk.{splitAt, entry, placeAt}
-use Rattle.geometry.proofs.Offsets.{kept-lt, flip-lt, near-cell, in-cube, cube-in, within-up, within-down, near-step}
+use Rattle.geometry.proofs.Offsets.{Within, kept-lt, flip-lt, near-cell, in-cube, cube-in, within-up, within-down, near-step}
 
 -- ---- tests
 
@@ -62,6 +62,17 @@ module _ (ks : Nodes) where
     pub entry-out : inCube l c o ≡ false → entry ks l c o ≡ 0
     unfolding entry
     entry-out e = ap (λ (r : Bool). if₀ r (over ks l (near l c o)) 0) e
+
+    -- an entry is a node exactly if it lies in the cube
+    pub entry-node : inCube l c o ≡ true → 0 < entry ks l c o
+    entry-node e = omega (arith, entry-in e, over-pos ks l (near l c o) (near-cell l c o))
+
+    pub node-within : 0 < entry ks l c o → Within l c o
+    node-within h = go (inCube l c o) refl
+      where
+        go : (r : Bool) → inCube l c o ≡ r → Within l c o
+        go true e = in-cube l c o e
+        go false e = absurd (omega (arith, entry-out e))
 
     pub place-in : inCube l c o ≡ true → placeAt ks l c o ≡ placeOver ks l (near l c o)
     unfolding placeAt
@@ -207,21 +218,7 @@ module _ (ks : Nodes) where
     pub entry-no : splitAt ks l from ≡ false → entry ks (suc l) (8 * c + q) o ≡ from
     entry-no e = entry-step ∙ ap (λ (r : Bool). if₀ r (8 * from + bitXor q o) from) e
 
-    -- whether it is a node, and of the child's own level
-    pub node-up : 0 < entry ks (suc l) (8 * c + q) o → 0 < from
-    node-up h = go (splitAt ks l from) refl
-      where
-        go : (r : Bool) → splitAt ks l from ≡ r → 0 < from
-        go true e = omega (arith, split-deep l from e, eight-pos l)
-        go false e = omega (arith, entry-no e)
-
-    pub node-down : 0 < from → 0 < entry ks (suc l) (8 * c + q) o
-    node-down h = go (splitAt ks l from) refl
-      where
-        go : (r : Bool) → splitAt ks l from ≡ r → 0 < entry ks (suc l) (8 * c + q) o
-        go true e = omega (arith, entry-yes e)
-        go false e = omega (arith, entry-no e)
-
+    -- whether it is of the child's own level
     pub fine-up : 8 ^ suc l ≤ entry ks (suc l) (8 * c + q) o → splitAt ks l from ≡ true
     fine-up h = go (splitAt ks l from) refl
       where

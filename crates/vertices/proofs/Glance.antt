@@ -7,8 +7,7 @@ use lib.Bits.{bitAnd, bitXor}
 use lib.Dec.{eqb}
 use borrow.Author.Tests.{eqb-true}
 use Rattle.vertices.specs.Walk.{all}
-use Rattle.vertices.specs.Block.{seenBy, keptBy, marked, SeenSays, Touched}
-use Rattle.geometry.proofs.Offsets.{kept-lt}
+use Rattle.vertices.specs.Block.{seenBy, keptBy, marked, loweredMark, SeenSays, Touched}
 use Rattle.vertices.proofs.Marks.{apart, shared}
 use Rattle.vertices.proofs.Blocks.{all-is}
 
@@ -35,6 +34,7 @@ unfolding all marked
 seen-bit = each (λ q o. marked (seenBy q) (8 * bitAnd o (7 - q) + bitXor q o)) refl
 
 pub seen-says : (below q m : ℕ) → q < 8 → m ≡ seenBy q → SeenSays below q (bitAnd below m)
+unfolding loweredMark
 seen-says below q m hq e z o ho = apart below m (8 * bitAnd o (7 - q) + bitXor q o) z (ap (λ (n : ℕ). marked n (8 * bitAnd o (7 - q) + bitXor q o)) e ∙ seen-bit q o hq ho)
 
 -- ---- the entries
@@ -50,25 +50,16 @@ kept-test = each (λ q o. not (marked (keptBy q) o) || eqb (bitAnd o (7 - q)) o)
 kept-only : (q o : ℕ) → q < 8 → o < 8 → marked (keptBy q) o ≡ true → bitAnd o (7 - q) ≡ o
 kept-only q o hq ho e = eqb-true (bitAnd o (7 - q)) o (sym (ap (λ (r : Bool). not r || eqb (bitAnd o (7 - q)) o) e) ∙ kept-test q o hq ho)
 
-module _ (gaps mask q m : ℕ) (hq : q < 8) (e : m ≡ keptBy q) where
-  has : (o : ℕ) → o < 8 → marked m (bitAnd o (7 - q)) ≡ true
-  has o ho = ap (λ (n : ℕ). marked n (bitAnd o (7 - q))) e ∙ kept-bit q o hq ho
+module _ (mask q m : ℕ) (hq : q < 8) (e : m ≡ keptBy q) where
+  pub touched-none : (low : ℕ) → bitAnd mask m ≡ 0 → Touched low mask q → ⊥
+  touched-none low z t =
+      let i = bitAnd (t .fine .0) (7 - q) in
+      true≢false (sym (t .fine .2) ∙ apart mask m i z (ap (λ (n : ℕ). marked n i) e ∙ kept-bit q (t .fine .0) hq (t .fine .1)))
 
-  only : (o : ℕ) → o < 8 → marked m o ≡ true → bitAnd o (7 - q) ≡ o
-  only o ho t = kept-only q o hq ho (sym (ap (λ (n : ℕ). marked n o) e) ∙ t)
-
-  pub touched-gap : gaps < 2 ^ 8 → (bitAnd gaps m ≡ 0 → ⊥) → Touched gaps mask q → ⊥
-  touched-gap h n t =
-      let s = shared 8 gaps m h n in
-      true≢false (sym (s .2) ∙ (sym (ap (marked gaps) (only (s .0) (s .1) (s .3))) ∙ t .full (s .0) (s .1)))
-
-  pub touched-none : bitAnd mask m ≡ 0 → Touched gaps mask q → ⊥
-  touched-none z t = true≢false (sym (t .fine .2) ∙ apart mask m (bitAnd (t .fine .0) (7 - q)) z (has (t .fine .0) (t .fine .1)))
-
-  pub touched-yes : mask < 2 ^ 8 → bitAnd gaps m ≡ 0 → (bitAnd mask m ≡ 0 → ⊥) → Touched gaps mask q
-  touched-yes h z n =
+  pub touched-yes : (low : ℕ) → mask < 2 ^ 8 → bitAnd low (7 - q) ≡ 0 → (bitAnd mask m ≡ 0 → ⊥) → Touched low mask q
+  touched-yes low h z n =
       let s = shared 8 mask m h n in
       record {
-        full = λ o ho. apart gaps m (bitAnd o (7 - q)) z (has o ho);
-        fine = (s .0, s .1, ap (marked mask) (only (s .0) (s .1) (s .3)) ∙ s .2);
+        full = z;
+        fine = (s .0, s .1, ap (marked mask) (kept-only q (s .0) hq (s .1) (sym (ap (λ (n : ℕ). marked n (s .0)) e) ∙ s .3)) ∙ s .2);
       }

@@ -7,7 +7,7 @@ use native.Mathlib.Nat.{add-mul-div-right, mul-assoc, mul-le-mul-right, zero-div
 use native.Mathlib.Decide.{decLt, ℕ-discrete}
 use native.Mathlib.Numerals.{add-one}
 use native.Mathlib.Omega.{arith}
-use lib.Bits.{bitAnd, and-le-l}
+use lib.Bits.{bitAnd, bitXor, and-le-l}
 use lib.Dec.{eqb, ltb}
 use lib.ListN.{length, getD}
 use lib.Pow.{pow-add, pow-lt, pow-pos, pow-mono, high, shr-shr, shl-exact}
@@ -19,7 +19,7 @@ use Rattle.morton.proofs.Levels.{and-true}
 use Rattle.tree.specs.Tree.{Decides}
 use Rattle.tree.specs.Down.{Nodes, firstAt, leads, steps}
 use Rattle.tree.proofs.Down.{leads-none}
-use Rattle.vertices.specs.Block.{marked, ChildMarks, BelowMarks, loweredMark, LoweredMarks, LoweredGaps}
+use Rattle.vertices.specs.Block.{marked, ChildMarks, BelowMarks, loweredMark, LoweredMarks}
 use Rattle.geometry.proofs.Offsets.{and-bit}
 
 -- ---- one bit
@@ -132,10 +132,14 @@ decides-is true b d = sym d
 decides-is false true d = absurd (d refl)
 decides-is false false d = refl
 
-pub filled-lowered : (mask below q n r : ℕ) → n ≡ 8 → Filled (λ o. loweredMark mask below q o ≡ true) n r → LoweredMarks mask below q r
-filled-lowered mask below q n r e f =
-    let g : Filled (λ o. loweredMark mask below q o ≡ true) 8 r = subst (λ (m : ℕ). Filled (λ o. loweredMark mask below q o ≡ true) m r) e f in
-    record { small = g .small; marks = λ o h. decides-is (marked r o) (loweredMark mask below q o) (g .marks o h) }
+pub is-lowered : (below q o : ℕ) {r : Bool} → marked below (8 * bitAnd o (7 - q) + bitXor q o) ≡ r → loweredMark below q o ≡ r
+unfolding loweredMark
+is-lowered below q o e = e
+
+pub filled-lowered : (below q n r : ℕ) → n ≡ 8 → Filled (λ o. loweredMark below q o ≡ true) n r → LoweredMarks below q r
+filled-lowered below q n r e f =
+    let g : Filled (λ o. loweredMark below q o ≡ true) 8 r = subst (λ (m : ℕ). Filled (λ o. loweredMark below q o ≡ true) m r) e f in
+    record { small = g .small; marks = λ o h. decides-is (marked r o) (loweredMark below q o) (g .marks o h) }
 
 -- ---- the split children of a node
 
@@ -166,9 +170,13 @@ marks-as {ks} {first} {k} {j} {mask} e m = subst (λ (i : ℕ). ChildMarks ks fi
 -- ---- the same for each split entry of a block
 
 module _ (ks : Nodes) (c : ℕ) (at : List ℕ) (mask : ℕ) where
+  -- bit w of entry o
+  abbrev Bit : ℕ → ℕ → Bool
+  Bit o w = marked mask o && steps ks (getD at o 0 + w) (8 * sub c o + w)
+
   pub record Stacked (n below : ℕ) : Type 0 where
     pub small : below < 2 ^ (8 * n)
-    pub marks : (o : ℕ) → o < n → marked mask o ≡ true → (w : ℕ) → w < 8 → marked below (8 * o + w) ≡ steps ks (getD at o 0 + w) (8 * sub c o + w)
+    pub marks : (o : ℕ) → o < n → (w : ℕ) → w < 8 → marked below (8 * o + w) ≡ Bit o w
 
   pub stacked-none : Stacked 0 0
   stacked-none = record { small = omega arith; marks = λ o h. absurd (omega arith) }
@@ -177,19 +185,22 @@ module _ (ks : Nodes) (c : ℕ) (at : List ℕ) (mask : ℕ) where
     wider : 8 + 8 * n ≡ 8 * (n + 1)
     wider = omega arith
 
-    pub stacked-yes : (x : ℕ) → n < 8 → ChildMarks ks (getD at n 0) (sub c n) x → Stacked (n + 1) (below + (x * 2 ^ (8 * n)) % 2 ^ 64)
-    stacked-yes x h cm =
+    -- the bits of entry n over those before
+    over : (m : ℕ) → ((i : ℕ) → i < 8 * n → marked m i ≡ marked below i) → ((w : ℕ) → w < 8 → marked m (8 * n + w) ≡ Bit n w)
+        → (o : ℕ) → o < n + 1 → (w : ℕ) → w < 8 → marked m (8 * o + w) ≡ Bit o w
+    over m under last o h w l =
+        elim (decLt o n) [
+          | yes g ↦ under (8 * o + w) (omega arith) ∙ s .marks o g w l
+          | no g ↦ let q : n ≡ o = omega arith in subst (λ (j : ℕ). marked m (8 * j + w) ≡ Bit j w) q (last w l)
+        ]
+
+    pub stacked-yes : (x : ℕ) → n < 8 → marked mask n ≡ true → ChildMarks ks (getD at n 0) (sub c n) x → Stacked (n + 1) (below + (x * 2 ^ (8 * n)) % 2 ^ 64)
+    stacked-yes x h e cm =
         rw (shift-exact (8 * n) 8 x (omega arith) (cm .small))
         (record {
           small = subst (λ (j : ℕ). below + x * 2 ^ (8 * n) < 2 ^ j) wider (put-lt below x (8 * n) (s .small) 8 (cm .small));
-          marks = λ o h e w l.
-              elim (decLt o n) [
-                | yes g ↦ marked-under below x (8 * n) (s .small) (8 * o + w) (omega arith) ∙ s .marks o g e w l
-                | no g ↦
-                    let q : n ≡ o = omega arith in
-                    subst (λ (j : ℕ). marked (below + x * 2 ^ (8 * n)) (8 * j + w) ≡ steps ks (getD at j 0 + w) (8 * sub c j + w)) q
-                    (marked-over below x (8 * n) (s .small) w ∙ cm .marks w l)
-              ];
+          marks = over (below + x * 2 ^ (8 * n)) (marked-under below x (8 * n) (s .small))
+              (λ w l. marked-over below x (8 * n) (s .small) w ∙ cm .marks w l ∙ sym (ap (λ (r : Bool). r && steps ks (getD at n 0 + w) (8 * sub c n + w)) e));
         })
 
     pub stacked-fits : (x : ℕ) → n < 8 → ChildMarks ks (getD at n 0) (sub c n) x → below + (x * 2 ^ (8 * n)) % 2 ^ 64 < 2 ^ 64
@@ -205,22 +216,13 @@ module _ (ks : Nodes) (c : ℕ) (at : List ℕ) (mask : ℕ) where
     stacked-no f =
         record {
           small = omega (arith, s .small, pow-lt {i = 8 * n} {j = 8 * (n + 1)} (omega arith));
-          marks = λ o h e w l.
-              elim (decLt o n) [
-                | yes g ↦ s .marks o g e w l
-                | no g ↦ let q : n ≡ o = omega arith in absurd (true≢false (sym e ∙ (ap (marked mask) (sym q) ∙ f)))
-              ];
+          marks = over below (λ i h. refl)
+              (λ w l. marked-past below (8 * n + w) (omega (arith, s .small, pow-mono {i = 8 * n} {j = 8 * n + w} (omega arith)))
+              ∙ sym (ap (λ (r : Bool). r && steps ks (getD at n 0 + w) (8 * sub c n + w)) f));
         }
 
   pub stacked-all : (n below : ℕ) → n ≡ 8 → Stacked n below → BelowMarks ks c at mask below
   stacked-all n below e s o h = s .marks o (omega arith)
-
--- ---- entries that are no node
-
-pub gaps-lowered : (gaps q n r : ℕ) → n ≡ 8 → Filled (λ o. marked gaps (bitAnd o (7 - q)) ≡ true) n r → LoweredGaps gaps q r
-gaps-lowered gaps q n r e f =
-    let g : Filled (λ o. marked gaps (bitAnd o (7 - q)) ≡ true) 8 r = subst (λ (m : ℕ). Filled (λ o. marked gaps (bitAnd o (7 - q)) ≡ true) m r) e f in
-    record { small = g .small; marks = λ o h. decides-is (marked r o) (marked gaps (bitAnd o (7 - q))) (g .marks o h) }
 
 -- ---- masks in common
 

@@ -27,19 +27,6 @@ use Rattle.vertices.proofs.Entries.{split-low, split-at, entry-in, entr
 use Rattle.vertices.proofs.Marks.{marked-first, marked-one}
 use Rattle.vertices.proofs.Blocks.{none-is, some-if, all-is, walked-end, ending-none, vertices-length, levels-length}
 
--- all but the first are no node
-others : (o : ℕ) → 0 < o → o < 8 → marked 254 o ≡ true
-unfolding marked
-others zero p h = absurd (omega arith)
-others (suc zero) p h = refl
-others (suc (suc zero)) p h = refl
-others (suc (suc (suc zero))) p h = refl
-others (suc (suc (suc (suc zero)))) p h = refl
-others (suc (suc (suc (suc (suc zero))))) p h = refl
-others (suc (suc (suc (suc (suc (suc zero)))))) p h = refl
-others (suc (suc (suc (suc (suc (suc (suc zero))))))) p h = refl
-others (suc (suc (suc (suc (suc (suc (suc (suc o)))))))) p h = absurd (omega arith)
-
 module _ (ks : Nodes) where
   entry-root : entry ks 0 1 0 ≡ 1
   unfolding near over third weave Within
@@ -92,8 +79,8 @@ module _ (ks : Nodes) where
     unfolding steps firstAt
     steps-root r t = ap (λ (n : ℕ). leads (ks .keys) n 8) (sym e) ∙ t
 
-    pub root-here : leads (ks .keys) p 8 ≡ true → Here ks 0 1 (p ∷ 0 ∷ 0 ∷ 0 ∷ 0 ∷ 0 ∷ 0 ∷ 0 ∷ []) 1 254 × (divided ks 0 1 ≡ true)
-    unfolding divided firstAt marked
+    pub root-here : leads (ks .keys) p 8 ≡ true → Here ks 0 1 (p ∷ 0 ∷ 0 ∷ 0 ∷ 0 ∷ 0 ∷ 0 ∷ 0 ∷ []) 1 7 × (divided ks 0 1 ≡ true)
+    unfolding divided firstAt marked third
     root-here s =
         let r : steps ks 0 1 ≡ true = steps-root true s in (
           record {
@@ -101,15 +88,18 @@ module _ (ks : Nodes) where
             cell = record { low = omega arith; high = omega arith };
             small = omega arith;
             marks = marks r;
+            eight-places = refl;
             stands = stands;
-            none = record { small = omega arith; marks = gaps };
+            side = record { small = omega arith; marks = sides };
           },
           some-if (λ o. splitAt ks 0 (entry ks 0 1 o)) 8 0 (omega arith) (split-root ∙ r),
         )
       where
-        gaps : (o : ℕ) → o < 8 → marked 254 o ≡ eqb (entry ks 0 1 o) 0
-        gaps zero h = sym (ap (λ (n : ℕ). eqb n 0) entry-root)
-        gaps (suc o) h = others (suc o) (omega arith) h ∙ sym (ap (λ (n : ℕ). eqb n 0) (entry-rest (suc o) (omega arith) h))
+        sides : (a : ℕ) → a < 3 → marked 7 a ≡ eqb (coord 0 1 a) 0
+        sides zero h = refl
+        sides (suc zero) h = refl
+        sides (suc (suc zero)) h = refl
+        sides (suc (suc (suc a))) h = absurd (omega arith)
 
         marks : steps ks 0 1 ≡ true → (o : ℕ) → o < 8 → marked 1 o ≡ splitAt ks 0 (entry ks 0 1 o)
         marks r zero h = marked-first ∙ sym (split-root ∙ r)

@@ -8,7 +8,7 @@ use lib.Bits.{bitAnd, bitXor}
 use lib.Dec.{eqb}
 use lib.ListN.{length, getD, set}
 use lib.Seq.{sets}
-use Rattle.morton.specs.Field.{bit, sub}
+use Rattle.morton.specs.Field.{bit, coord, sub}
 use Rattle.morton.specs.Level.{limit, if₀, Cell}
 use Rattle.tree.specs.Down.{Nodes, firstAt, steps}
 use Rattle.vertices.specs.Walk.{splitAt, entry, placeAt, lowCorner, Spot, verticesOf, levelsOf}
@@ -18,20 +18,21 @@ use Rattle.vertices.specs.Cells.{wanted, placesOf, Cells}
 unfoldable pub marked : ℕ → ℕ → Bool
 marked mask i = eqb (bit i mask) 1
 
--- Which entries of the cell c of level l are no node.
-pub record Gaps (ks : Nodes) (l c gaps : ℕ) : Type 0 where
-  pub small : gaps < 2 ^ 8
-  pub marks : (o : ℕ) → o < 8 → marked gaps o ≡ eqb (entry ks l c o) 0
+-- On which axes the cell c of level l lies at the cube's side: what lies lower there is outside.
+pub record Low (l c low : ℕ) : Type 0 where
+  pub small : low < 2 ^ 3
+  pub marks : (a : ℕ) → a < 3 → marked low a ≡ eqb (coord l c a) 0
 
 -- The block of the cell c of level l, which is no deeper than the limit: where each entry stands, or of a split one its first child; which are split, and
--- which are no node.
-pub record Here (ks : Nodes) (l c : ℕ) (at : List ℕ) (mask gaps : ℕ) : Type 0 where
+-- on which axes none lies lower.
+pub record Here (ks : Nodes) (l c : ℕ) (at : List ℕ) (mask low : ℕ) : Type 0 where
   pub shallow : l ≤ limit
   pub cell : Cell l c
   pub small : mask < 2 ^ 8
   pub marks : (o : ℕ) → o < 8 → marked mask o ≡ splitAt ks l (entry ks l c o)
+  pub eight-places : length at ≡ 8
   pub stands : (o : ℕ) → o < 8 → getD at o 0 ≡ if₀ (marked mask o) (firstAt ks (placeAt ks l c o)) (placeAt ks l c o)
-  pub none : Gaps ks l c gaps
+  pub side : Low l c low
 
 -- The grandchildren of each marked entry, which is the cell that lies that way, are numbers of 64 bits.
 abbrev pub Small : ℕ → ℕ → Type 0
@@ -46,24 +47,20 @@ pub record ChildMarks (ks : Nodes) (first p mask : ℕ) : Type 0 where
   pub small : mask < 2 ^ 8
   pub marks : (w : ℕ) → w < 8 → marked mask w ≡ steps ks (first + w) (8 * p + w)
 
--- The same for each split entry of a block, eight bits for each entry.
+-- The same for each entry of a block, eight bits for each; none of an entry that isn't split.
 abbrev pub BelowMarks : Nodes → ℕ → List ℕ → ℕ → ℕ → Type 0
 BelowMarks ks c at mask below =
-    (o : ℕ) → o < 8 → marked mask o ≡ true → (w : ℕ) → w < 8 → marked below (8 * o + w) ≡ steps ks (getD at o 0 + w) (8 * sub c o + w)
+    (o : ℕ) → o < 8 → (w : ℕ) → w < 8 → marked below (8 * o + w) ≡ (marked mask o && steps ks (getD at o 0 + w) (8 * sub c o + w))
 
 -- ---- the block of child q
 
--- Entry o is a child of the entry of the parent's block that lies that way, or that entry itself where it is not split.
-unfoldable pub loweredMark : ℕ → ℕ → ℕ → ℕ → Bool
-loweredMark mask below q o = marked mask (bitAnd o (7 - q)) && marked below (8 * bitAnd o (7 - q) + bitXor q o)
+-- Entry o is the child q xor o of the entry o and not q of the parent's block, or that entry itself where it is not split. So its bit is one of those.
+unfoldable pub loweredMark : ℕ → ℕ → ℕ → Bool
+loweredMark below q o = marked below (8 * bitAnd o (7 - q) + bitXor q o)
 
-pub record LoweredMarks (mask below q r : ℕ) : Type 0 where
+pub record LoweredMarks (below q r : ℕ) : Type 0 where
   pub small : r < 2 ^ 8
-  pub marks : (o : ℕ) → o < 8 → marked r o ≡ loweredMark mask below q o
-
-pub record LoweredGaps (gaps q r : ℕ) : Type 0 where
-  pub small : r < 2 ^ 8
-  pub marks : (o : ℕ) → o < 8 → marked r o ≡ marked gaps (bitAnd o (7 - q))
+  pub marks : (o : ℕ) → o < 8 → marked r o ≡ loweredMark below q o
 
 -- The bits of such a number, for child q: the entries' children that its own entries are.
 abbrev pub seenBy : ℕ → ℕ
@@ -73,13 +70,13 @@ seenBy q = getD (9241421688590303745 ∷ 54043401687662595 ∷ 176265457830405 �
 abbrev pub keptBy : ℕ → ℕ
 keptBy q = getD (255 ∷ 85 ∷ 51 ∷ 17 ∷ 15 ∷ 5 ∷ 3 ∷ 1 ∷ []) q 0
 
--- Where r is 0, no child that the block of child q has is marked.
+-- Where r is 0, none of its entries is marked.
 abbrev pub SeenSays : ℕ → ℕ → ℕ → Type 0
-SeenSays below q r = r ≡ 0 → (o : ℕ) → o < 8 → marked below (8 * bitAnd o (7 - q) + bitXor q o) ≡ false
+SeenSays below q r = r ≡ 0 → (o : ℕ) → o < 8 → loweredMark below q o ≡ false
 
--- No entry that child q sees is a gap, and one is split.
-pub record Touched (gaps mask q : ℕ) : Type 0 where
-  pub full : (o : ℕ) → o < 8 → marked gaps (bitAnd o (7 - q)) ≡ false
+-- Child q lies at no side of the cube, and an entry that it sees is split.
+pub record Touched (low mask q : ℕ) : Type 0 where
+  pub full : bitAnd low (7 - q) ≡ 0
   pub fine : (o : ℕ) × (o < 8) × (marked mask (bitAnd o (7 - q)) ≡ true)
 
 -- ---- tables
@@ -95,8 +92,9 @@ pub record Laid (ss : List Spot) (at r : ℕ) (v0 l0 v1 l1 : List ℕ) : Type 0 
 
 -- ---- places
 
--- They lie in reach of the table.
+-- There are eight, and they lie in reach of the table.
 pub record Near (at : List ℕ) (most : ℕ) : Type 0 where
+  pub eight-places : length at ≡ 8
   pub each : (o : ℕ) → o < 8 → getD at o 0 ≤ most
 
 -- The place of entry o of child q.
@@ -109,7 +107,7 @@ unfoldable pub loweredAt : List ℕ → List ℕ → ℕ → ℕ → ℕ → ℕ
 loweredAt fs at mask child q o = if₀ (marked child o) (getD fs (loweredPlace at mask q o) 0) (loweredPlace at mask q o)
 
 abbrev pub LoweredAt : List ℕ → List ℕ → ℕ → ℕ → ℕ → List ℕ → Type 0
-LoweredAt fs at mask child q d = (o : ℕ) → o < 8 → getD d o 0 ≡ loweredAt fs at mask child q o
+LoweredAt fs at mask child q d = (length d ≡ 8) × ((o : ℕ) → o < 8 → getD d o 0 ≡ loweredAt fs at mask child q o)
 
 -- Eight places stand at their place, if the table has it.
 abbrev pub RoundSays : List ℕ → ℕ → List ℕ → List ℕ → Type 0

@@ -12,7 +12,7 @@ ghost use lib.Seq.{sets};
 ghost use Rattle.vertices.specs.Listing.{listsOf, ListSays, TrustingSays};
 ghost use Rattle.vertices.specs.Cells.{eight, cellsOf, CellsSays};
 ghost use Rattle.tree.specs.Down.{nodesOf};
-ghost use Rattle.vertices.specs.Block.{seenBy, keptBy, marked, Here, Small, ChildlessSays, ChildMarks, BelowMarks, SeenSays, LoweredMarks, LoweredGaps, Touched, PutSays, RoundSays, Laid, Near, loweredPlace, LoweredAt, Stored, TakeSays, Skipped};
+ghost use Rattle.vertices.specs.Block.{seenBy, keptBy, marked, Here, Small, ChildlessSays, ChildMarks, BelowMarks, SeenSays, LoweredMarks, Touched, PutSays, RoundSays, Laid, Near, loweredPlace, LoweredAt, Stored, TakeSays, Skipped};
 
 // How many vertices there are, or the number of the refusal.
 pub enum ListAnswer {
@@ -78,9 +78,9 @@ fn lower_cell(cell: u64, o: usize) -> u64
 }
 
 // The same for each split entry of a block, eight bits for each entry: it is the cell that lies that way.
-fn split_below(keys: &[u64], firsts: &[u16], cell: u64, at: [usize; 8], mask: u64) -> u64
-    requires { ⌜ Small cell mask × Near at (2 ^ 62) ⌝ }
-    ensures { λ r. ⌜ BelowMarks (nodesOf (now (keys .entry)) (now (firsts .entry))) cell at mask r ⌝ }
+fn split_below(keys: &[u64], firsts: &[u16], cell: u64, at: &[usize], mask: u64) -> u64
+    requires { ⌜ Small cell mask × Near (now at) (2 ^ 62) ⌝ }
+    ensures { λ r. ⌜ BelowMarks (nodesOf (now (keys .entry)) (now (firsts .entry))) cell (now (at .entry)) mask r ⌝ }
 {
     let mut below = 0;
     let mut o: usize = 0;
@@ -93,24 +93,6 @@ fn split_below(keys: &[u64], firsts: &[u16], cell: u64, at: [usize; 8], mask: u6
         }
     }
     below
-}
-
-// Which entries of child q are no node.
-fn lower_gaps(gaps: u64, q: usize) -> u64
-    requires { ⌜ q < 8 ⌝ }
-    ensures { λ r. ⌜ LoweredGaps gaps q r ⌝ }
-{
-    let mut out = 0;
-    let mut o: usize = 0;
-    while o < 8 {
-        if marked(gaps, o & (7 - q)) {
-            out += 1 << o;
-            o += 1;
-        } else {
-            o += 1;
-        }
-    }
-    out
 }
 
 // Which children of the parent's entries the entries of child q are, eight bits for each of the parent's. As a choice, it is a table that the
@@ -140,9 +122,9 @@ fn seen(below: u64, q: usize) -> u64
 }
 
 // The mask of child q.
-fn lower_mask(mask: u64, below: u64, q: usize) -> u64
+fn lower_mask(below: u64, q: usize) -> u64
     requires { ⌜ q < 8 ⌝ }
-    ensures { λ r. ⌜ LoweredMarks mask below q r ⌝ }
+    ensures { λ r. ⌜ LoweredMarks below q r ⌝ }
 {
     if seen(below, q) == 0 {
         return 0;
@@ -150,14 +132,9 @@ fn lower_mask(mask: u64, below: u64, q: usize) -> u64
     let mut out = 0;
     let mut o: usize = 0;
     while o < 8 {
-        let i = o & (7 - q);
-        if marked(mask, i) {
-            if marked(below, 8 * i + (q ^ o)) {
-                out += 1 << o;
-                o += 1;
-            } else {
-                o += 1;
-            }
+        if marked(below, 8 * (o & (7 - q)) + (q ^ o)) {
+            out += 1 << o;
+            o += 1;
         } else {
             o += 1;
         }
@@ -183,15 +160,14 @@ fn kept_by(q: usize) -> u64
 }
 
 // Whether the low corner of child q is listed, where none of its entries is split.
-fn touched(gaps: u64, mask: u64, q: usize) -> bool
-    requires { ⌜ (q < 8) × (mask < 2 ^ 8) × (gaps < 2 ^ 8) ⌝ }
-    ensures { λ r. ⌜ Decides r (Touched gaps mask q) ⌝ }
+fn touched(low: usize, mask: u64, q: usize) -> bool
+    requires { ⌜ (q < 8) × (mask < 2 ^ 8) ⌝ }
+    ensures { λ r. ⌜ Decides r (Touched low mask q) ⌝ }
 {
-    let kept = kept_by(q);
-    if gaps & kept != 0 {
+    if low & (7 - q) != 0 {
         return false;
     }
-    if mask & kept == 0 {
+    if mask & kept_by(q) == 0 {
         return false;
     }
     true
@@ -232,9 +208,9 @@ fn has_room(len: usize, start: usize, n: usize) -> bool
 }
 
 // The place of entry o of child q.
-fn lower_place(at: [usize; 8], mask: u64, q: usize, o: usize) -> usize
-    requires { ⌜ (q < 8) × (o < 8) × Near at (2 ^ 62) ⌝ }
-    ensures { λ r. ⌜ r ≡ loweredPlace at mask q o ⌝ }
+fn lower_place(at: &[usize], mask: u64, q: usize, o: usize) -> usize
+    requires { ⌜ (q < 8) × (o < 8) × Near (now at) (2 ^ 62) ⌝ }
+    ensures { λ r. ⌜ r ≡ loweredPlace (now (at .entry)) mask q o ⌝ }
 {
     let i = o & (7 - q);
     if marked(mask, i) {
@@ -244,10 +220,10 @@ fn lower_place(at: [usize; 8], mask: u64, q: usize, o: usize) -> usize
 }
 
 // Writes the places of child q's entries, for the vertex at a place.
-fn put_places(places: &mut [usize], n: usize, at: [usize; 8], mask: u64, q: usize)
+fn put_places(places: &mut [usize], n: usize, at: &[usize], mask: u64, q: usize)
     requires { ⌜ (q < 8) × (8 * n + 8 ≤ length (now places)) ⌝ }
-    requires { ⌜ Near at (2 ^ 62) ⌝ }
-    ensures { λ _. ⌜ now (places .exit) ≡ sets (now (places .entry)) (8 * n) (eight (loweredPlace at mask q)) ⌝ }
+    requires { ⌜ Near (now at) (2 ^ 62) ⌝ }
+    ensures { λ _. ⌜ now (places .exit) ≡ sets (now (places .entry)) (8 * n) (eight (loweredPlace (now (at .entry)) mask q)) ⌝ }
 {
     let mut o: usize = 0;
     while o < 8 {
@@ -257,9 +233,9 @@ fn put_places(places: &mut [usize], n: usize, at: [usize; 8], mask: u64, q: usiz
 }
 
 // The same if the table has room for them.
-fn put_round(places: &mut [usize], n: usize, at: [usize; 8], mask: u64, q: usize)
-    requires { ⌜ (q < 8) × Near at (2 ^ 62) ⌝ }
-    ensures { λ _. ⌜ RoundSays (now (places .entry)) n (eight (loweredPlace at mask q)) (now (places .exit)) ⌝ }
+fn put_round(places: &mut [usize], n: usize, at: &[usize], mask: u64, q: usize)
+    requires { ⌜ (q < 8) × Near (now at) (2 ^ 62) ⌝ }
+    ensures { λ _. ⌜ RoundSays (now (places .entry)) n (eight (loweredPlace (now (at .entry)) mask q)) (now (places .exit)) ⌝ }
 {
     if n < places.len() / 8 {
         put_places(places, n, at, mask, q);
@@ -290,7 +266,7 @@ fn take(
     level: u8,
     vertex: u64,
     from: u64,
-    at: [usize; 8],
+    at: &[usize],
     mask: u64,
     q: usize,
     vertices: &mut [u64],
@@ -298,9 +274,9 @@ fn take(
     places: &mut [usize],
     n: usize,
 ) -> usize
-    requires { ⌜ (q < 8) × (n + 1 < 2 ^ 64) × Near at (2 ^ 62) ⌝ }
+    requires { ⌜ (q < 8) × (n + 1 < 2 ^ 64) × Near (now at) (2 ^ 62) ⌝ }
     ensures { λ r. ⌜
-        TakeSays from vertex level n (eight (loweredPlace at mask q)) (cellsOf (now (vertices .entry)) (now (levels .entry)) (now (places .entry)))
+        TakeSays from vertex level n (eight (loweredPlace (now (at .entry)) mask q)) (cellsOf (now (vertices .entry)) (now (levels .entry)) (now (places .entry)))
         (cellsOf (now (vertices .exit)) (now (levels .exit)) (now (places .exit))) r ⌝ }
 {
     if vertex < from {
@@ -312,9 +288,9 @@ fn take(
 }
 
 // The places of child q's entries; of the split ones, those of their first children.
-fn lower_at(firsts: &[u16], at: [usize; 8], mask: u64, child: u64, q: usize) -> [usize; 8]
-    requires { ⌜ (q < 8) × Near at (2 ^ 62) ⌝ }
-    ensures { λ r. ⌜ LoweredAt (now (firsts .entry)) at mask child q r ⌝ }
+fn lower_at(firsts: &[u16], at: &[usize], mask: u64, child: u64, q: usize) -> [usize; 8]
+    requires { ⌜ (q < 8) × Near (now at) (2 ^ 62) ⌝ }
+    ensures { λ r. ⌜ LoweredAt (now (firsts .entry)) (now (at .entry)) mask child q r ⌝ }
 {
     let mut out = [0usize; 8];
     let mut o: usize = 0;
@@ -339,15 +315,15 @@ fn gather(
     room: usize,
     level: u8,
     cell: u64,
-    at: [usize; 8],
+    at: &[usize],
     mask: u64,
-    gaps: u64,
+    low: usize,
     vertices: &mut [u64],
     levels: &mut [u8],
     places: &mut [usize],
     n: usize,
 ) -> usize
-    requires { ⌜ Here (nodesOf (now keys) (now firsts)) level cell at mask gaps ⌝ }
+    requires { ⌜ Here (nodesOf (now keys) (now firsts)) level cell (now at) mask low ⌝ }
     requires { ⌜ divided (nodesOf (now keys) (now firsts)) level cell ≡ true ⌝ }
     requires { ⌜ n ≤ room ⌝ }
     ensures { λ r. ⌜
@@ -365,9 +341,9 @@ fn gather(
         if skipped(level + 1, child, from, m, room) {
             q += 1;
         } else {
-            let child_mask = lower_mask(mask, below, q);
+            let child_mask = lower_mask(below, q);
             if child_mask == 0 {
-                if touched(gaps, mask, q) {
+                if touched(low, mask, q) {
                     let vertex = low_corner(level + 1, child);
                     m = take(
                         level + 1,
@@ -394,9 +370,9 @@ fn gather(
                     room,
                     level + 1,
                     child,
-                    lowered,
+                    &lowered,
                     child_mask,
-                    lower_gaps(gaps, q),
+                    low & (7 - q),
                     vertices,
                     levels,
                     places,
@@ -433,9 +409,9 @@ fn from_root(
             room,
             0,
             1,
-            at,
+            &at,
             1,
-            254,
+            7,
             vertices,
             levels,
             places,

@@ -16,7 +16,6 @@ use Rattle.vertices.proofs.gather.Kinds as gather-kinds
 use Rattle.vertices.proofs.+gather.Lts-gather as gather-lts
 use Rattle.vertices.proofs.low_corner.Reads as low-corner-reads
 use Rattle.vertices.proofs.lower_at.Reads as lower-at-reads
-use Rattle.vertices.proofs.lower_gaps.Reads as lower-gaps-reads
 use Rattle.vertices.proofs.lower_mask.Reads as lower-mask-reads
 use Rattle.vertices.proofs.skipped.Reads as skipped-reads
 use Rattle.vertices.proofs.split_below.Reads as split-below-reads
@@ -25,45 +24,45 @@ use Rattle.vertices.proofs.touched.Reads as touched-reads
 use Rattle.vertices.proofs.+gather.{statement}
 use Rattle.vertices.proofs.+gather.Tie.{close}
 
-abbrev μ-gather : Measures 5 gather-kinds.ps ℕ
+abbrev μ-gather : Measures 6 gather-kinds.ps ℕ
 μ-gather κs a = 22 - a .1 .1 .1 .1 .0
 
-abbrev gather-at : ℕ → In 5 gather-kinds.ps
-gather-at t = and 5 gather-kinds.ps (is 5 gather-kinds.ps μ-gather t) gather.Pre
+abbrev gather-at : ℕ → In 6 gather-kinds.ps
+gather-at t = and 6 gather-kinds.ps (is 6 gather-kinds.ps μ-gather t) gather.Pre
 
-abbrev gather-below : ℕ → In 5 gather-kinds.ps
-gather-below t = and 5 gather-kinds.ps (falls 5 gather-kinds.ps _<_ μ-gather t) gather.Pre
+abbrev gather-below : ℕ → In 6 gather-kinds.ps
+gather-below t = and 6 gather-kinds.ps (falls 6 gather-kinds.ps _<_ μ-gather t) gather.Pre
 
 abbrev claims : ℕ → gather-lts.Claims
 claims t =
-    (split-below-reads.Asked, split-below-reads.Learnt, skipped-reads.Asked, skipped-reads.Learnt, lower-mask-reads.Asked, lower-mask-reads.Learnt, touched-reads.Asked, touched-reads.Learnt, low-corner-reads.Asked, low-corner-reads.Learnt, take-reads.Asked, take-reads.Learnt, lower-at-reads.Asked, lower-at-reads.Learnt, lower-gaps-reads.Asked, lower-gaps-reads.Learnt, gather-below t, gather.Post)
+    (split-below-reads.Asked, split-below-reads.Learnt, skipped-reads.Asked, skipped-reads.Learnt, lower-mask-reads.Asked, lower-mask-reads.Learnt, touched-reads.Asked, touched-reads.Learnt, low-corner-reads.Asked, low-corner-reads.Learnt, take-reads.Asked, take-reads.Learnt, lower-at-reads.Asked, lower-at-reads.Learnt, gather-below t, gather.Post)
 
 abbrev gather-Inv-loop : gather-lts.InvT-loop
-gather-Inv-loop keys firsts from room level cell at mask gaps vertices₀ levels₀ places₀ n below m₀ q₀ vertices levels places m q = (q ≤ 8) × (length vertices ≡ length vertices₀) × (length levels ≡ length levels₀) × (length places ≡ length places₀) × (m ≤ room) × Partly (nodesOf keys firsts) from room level cell q n m (cellsOf vertices₀ levels₀ places₀) (cellsOf vertices levels places)
+gather-Inv-loop keys firsts from room level cell at mask low vertices₀ levels₀ places₀ n below m₀ q₀ vertices levels places m q = (q ≤ 8) × (length vertices ≡ length vertices₀) × (length levels ≡ length levels₀) × (length places ≡ length places₀) × (m ≤ room) × Partly (nodesOf keys firsts) from room level cell q n m (cellsOf vertices₀ levels₀ places₀) (cellsOf vertices levels places)
 
 abbrev gather-μ-loop : gather-lts.MeasureT-loop
-gather-μ-loop keys firsts from room level cell at mask gaps vertices₀ levels₀ places₀ n below m₀ q₀ vertices levels places m q = 8 - q
+gather-μ-loop keys firsts from room level cell at mask low vertices₀ levels₀ places₀ n below m₀ q₀ vertices levels places m q = 8 - q
 
 gather-returns : (t : ℕ) → gather-lts.Need-returns (claims t) (gather-at t) gather.Post gather-Inv-loop gather-μ-loop
-gather-returns t c = partly-deep _ _ _ _ _ _ _ (omega arith) (c .before .before .before .before .before .before .pre .1 .1 .0)
+gather-returns t c = partly-deep _ _ _ _ _ _ _ (omega arith) (c .before .before .before .before .before .before .before .pre .1 .1 .0)
 
 gather-split-below-requires : (t : ℕ) → gather-lts.Need-split-below-requires (claims t) (gather-at t) gather.Post gather-Inv-loop gather-μ-loop
-gather-split-below-requires t c κs = (here-small _ _ _ _ _ _ (c .before .before .before .before .before .before .pre .1 .0), here-near _ _ _ _ _ _ (c .before .before .before .before .before .before .pre .1 .0) (2 ^ 62) (omega arith))
+gather-split-below-requires t c κs = (here-small _ _ _ _ _ _ (c .before .before .before .before .before .before .before .pre .1 .0), here-near _ _ _ _ _ _ (c .before .before .before .before .before .before .before .pre .1 .0) (2 ^ 62) (omega arith))
 
 gather-loop-holds : (t : ℕ) → gather-lts.Need-loop-holds (claims t) (gather-at t) gather.Post gather-Inv-loop gather-μ-loop
-gather-loop-holds t c = (omega arith, refl, refl, refl, c .before .before .before .before .before .before .before .pre .1 .1 .1, partly-none _ _ _ _ _ _ _)
+gather-loop-holds t c = (omega arith, refl, refl, refl, c .before .before .before .before .before .before .before .before .pre .1 .1 .1, partly-none _ _ _ _ _ _ _)
 
 gather-mul-child : (t : ℕ) → gather-lts.Need-mul-child (claims t) (gather-at t) gather.Post gather-Inv-loop gather-μ-loop
-gather-mul-child t c = record { fits = omega (arith, here-bound _ _ _ _ _ _ (c .before .before .before .before .before .before .before .before .before .pre .1 .0)) }
+gather-mul-child t c = record { fits = omega (arith, here-bound _ _ _ _ _ _ (c .before .before .before .before .before .before .before .before .before .before .pre .1 .0)) }
 
 gather-add-child : (t : ℕ) → gather-lts.Need-add-child (claims t) (gather-at t) gather.Post gather-Inv-loop gather-μ-loop
-gather-add-child t c = record { fits = omega (arith, here-bound _ _ _ _ _ _ (c .before .before .before .before .before .before .before .before .before .pre .1 .0)) }
+gather-add-child t c = record { fits = omega (arith, here-bound _ _ _ _ _ _ (c .before .before .before .before .before .before .before .before .before .before .pre .1 .0)) }
 
 gather-add-skipped : (t : ℕ) → gather-lts.Need-add-skipped (claims t) (gather-at t) gather.Post gather-Inv-loop gather-μ-loop
-gather-add-skipped t c = record { fits = omega (arith, c .before .before .before .before .before .before .before .before .before .pre .1 .0 .shallow) }
+gather-add-skipped t c = record { fits = omega (arith, c .before .before .before .before .before .before .before .before .before .before .pre .1 .0 .shallow) }
 
 gather-skipped-requires : (t : ℕ) → gather-lts.Need-skipped-requires (claims t) (gather-at t) gather.Post gather-Inv-loop gather-μ-loop
-gather-skipped-requires t c κs = (omega arith, here-child _ _ _ _ _ _ (c .before .before .before .before .before .before .before .before .before .pre .1 .0) (c .before .loop .q) (omega arith))
+gather-skipped-requires t c κs = (omega arith, here-child _ _ _ _ _ _ (c .before .before .before .before .before .before .before .before .before .before .pre .1 .0) (c .before .loop .q) (omega arith))
 
 gather-add-q : (t : ℕ) → gather-lts.Need-add-q (claims t) (gather-at t) gather.Post gather-Inv-loop gather-μ-loop
 gather-add-q t c = search needs
@@ -78,19 +77,19 @@ gather-lower-mask-requires : (t : ℕ) → gather-lts.Need-lower-mask-requires (
 gather-lower-mask-requires t c κs = search needs
 
 gather-touched-requires : (t : ℕ) → gather-lts.Need-touched-requires (claims t) (gather-at t) gather.Post gather-Inv-loop gather-μ-loop
-gather-touched-requires t c κs = (omega arith, c .before .before .before .before .before .before .before .before .before .before .before .before .before .pre .1 .0 .small, c .before .before .before .before .before .before .before .before .before .before .before .before .before .pre .1 .0 .none .small)
+gather-touched-requires t c κs = (omega arith, c .before .before .before .before .before .before .before .before .before .before .before .before .before .before .pre .1 .0 .small)
 
 gather-add-low-corner : (t : ℕ) → gather-lts.Need-add-low-corner (claims t) (gather-at t) gather.Post gather-Inv-loop gather-μ-loop
-gather-add-low-corner t c = record { fits = omega (arith, c .before .before .before .before .before .before .before .before .before .before .before .before .before .before .before .pre .1 .0 .shallow) }
+gather-add-low-corner t c = record { fits = omega (arith, c .before .before .before .before .before .before .before .before .before .before .before .before .before .before .before .before .pre .1 .0 .shallow) }
 
 gather-low-corner-requires : (t : ℕ) → gather-lts.Need-low-corner-requires (claims t) (gather-at t) gather.Post gather-Inv-loop gather-μ-loop
-gather-low-corner-requires t c κs = (omega arith, here-child _ _ _ _ _ _ (c .before .before .before .before .before .before .before .before .before .before .before .before .before .before .before .pre .1 .0) (c .before .before .before .before .before .before .before .loop .q) (omega arith))
+gather-low-corner-requires t c κs = (omega arith, here-child _ _ _ _ _ _ (c .before .before .before .before .before .before .before .before .before .before .before .before .before .before .before .before .pre .1 .0) (c .before .before .before .before .before .before .before .loop .q) (omega arith))
 
 gather-add-take : (t : ℕ) → gather-lts.Need-add-take (claims t) (gather-at t) gather.Post gather-Inv-loop gather-μ-loop
-gather-add-take t c = record { fits = omega (arith, c .before .before .before .before .before .before .before .before .before .before .before .before .before .before .before .before .pre .1 .0 .shallow) }
+gather-add-take t c = record { fits = omega (arith, c .before .before .before .before .before .before .before .before .before .before .before .before .before .before .before .before .before .pre .1 .0 .shallow) }
 
 gather-take-requires : (t : ℕ) → gather-lts.Need-take-requires (claims t) (gather-at t) gather.Post gather-Inv-loop gather-μ-loop
-gather-take-requires t c κs = (omega arith, omega (arith, unskipped _ _ _ _ _ (denied (c .before .before .before .before .before .before .before .before .before .skipped .result) _ (c .before .before .before .before .before .before .before .before .if2 .left) (c .before .before .before .before .before .before .before .before .before .skipped .ensures))), here-near _ _ _ _ _ _ (c .before .before .before .before .before .before .before .before .before .before .before .before .before .before .before .before .before .before .before .pre .1 .0) (2 ^ 62) (omega arith))
+gather-take-requires t c κs = (omega arith, omega (arith, unskipped _ _ _ _ _ (denied (c .before .before .before .before .before .before .before .before .before .skipped .result) _ (c .before .before .before .before .before .before .before .before .if2 .left) (c .before .before .before .before .before .before .before .before .before .skipped .ensures))), here-near _ _ _ _ _ _ (c .before .before .before .before .before .before .before .before .before .before .before .before .before .before .before .before .before .before .before .before .pre .1 .0) (2 ^ 62) (omega arith))
 
 gather-add-q-2 : (t : ℕ) → gather-lts.Need-add-q-2 (claims t) (gather-at t) gather.Post gather-Inv-loop gather-μ-loop
 gather-add-q-2 t c = search needs
@@ -100,7 +99,7 @@ gather-loop-less-2 t c = search needs
 
 gather-loop-again-2 : (t : ℕ) → gather-lts.Need-loop-again-2 (claims t) (gather-at t) gather.Post gather-Inv-loop gather-μ-loop
 gather-loop-again-2 t c = let l = c .before .before .before .before .before .before .before .before .before .before .before .before .before .before .before .before .before .before .loop in let k = c .before .before .before .before .before .before .take in
-    let g = grown-taken _ _ _ _ _ (l .q) (child-still _ _ _ _ _ _ (c .before .before .before .before .before .before .before .before .before .before .before .before .before .before .before .before .before .before .before .before .before .before .before .before .before .before .pre .1 .0) (c .before .before .before .before .before .before .before .before .before .before .before .before .before .before .before .before .before .before .loop .q) (omega arith) _ (c .before .before .before .before .before .before .before .before .before .before .before .before .before .before .before .before .before .before .before .split-below .ensures) _ (c .before .before .before .before .before .before .before .before .before .before .before .before .before .before .lower-mask .ensures) (c .before .before .before .before .before .before .before .before .before .before .before .before .before .if3 .taken)) (meets-is _ _ _ _ _ _ (c .before .before .before .before .before .before .before .before .before .before .before .before .before .before .before .before .before .before .before .before .before .before .before .before .before .before .pre .1 .0) (c .before .before .before .before .before .before .before .before .before .before .before .before .before .before .before .before .before .before .loop .q) (omega arith) _ (c .before .before .before .before .before .before .before .before .before .before .before .before .touched .ensures) ∙ c .before .before .before .before .before .before .before .before .before .before .before .if4 .taken) _ _ _ _ _ _ _ (place-is _ _ _ _ _ _ (c .before .before .before .before .before .before .before .before .before .before .before .before .before .before .before .before .before .before .before .before .before .before .before .before .before .before .pre .1 .0) (l .q) (omega arith)) (c .before .before .before .before .before .before .before .before .before .before .low-corner .ensures) (unskipped _ _ _ _ _ (denied (c .before .before .before .before .before .before .before .before .before .before .before .before .before .before .before .before .skipped .result) _ (c .before .before .before .before .before .before .before .before .before .before .before .before .before .before .before .if2 .left) (c .before .before .before .before .before .before .before .before .before .before .before .before .before .before .before .before .skipped .ensures))) (k .ensures) in
+    let g = grown-taken _ _ _ _ _ (l .q) (child-still _ _ _ _ _ _ (c .before .before .before .before .before .before .before .before .before .before .before .before .before .before .before .before .before .before .before .before .before .before .before .before .before .before .before .pre .1 .0) (c .before .before .before .before .before .before .before .before .before .before .before .before .before .before .before .before .before .before .loop .q) (omega arith) _ (c .before .before .before .before .before .before .before .before .before .before .before .before .before .before .before .before .before .before .before .split-below .ensures) _ (c .before .before .before .before .before .before .before .before .before .before .before .before .before .before .lower-mask .ensures) (c .before .before .before .before .before .before .before .before .before .before .before .before .before .if3 .taken)) (meets-is _ _ _ _ _ _ (c .before .before .before .before .before .before .before .before .before .before .before .before .before .before .before .before .before .before .before .before .before .before .before .before .before .before .before .pre .1 .0) (c .before .before .before .before .before .before .before .before .before .before .before .before .before .before .before .before .before .before .loop .q) (omega arith) _ (c .before .before .before .before .before .before .before .before .before .before .before .before .touched .ensures) ∙ c .before .before .before .before .before .before .before .before .before .before .before .if4 .taken) _ _ _ _ _ _ _ (place-is _ _ _ _ _ _ (c .before .before .before .before .before .before .before .before .before .before .before .before .before .before .before .before .before .before .before .before .before .before .before .before .before .before .before .pre .1 .0) (l .q) (omega arith)) (c .before .before .before .before .before .before .before .before .before .before .low-corner .ensures) (unskipped _ _ _ _ _ (denied (c .before .before .before .before .before .before .before .before .before .before .before .before .before .before .before .before .skipped .result) _ (c .before .before .before .before .before .before .before .before .before .before .before .before .before .before .before .if2 .left) (c .before .before .before .before .before .before .before .before .before .before .before .before .before .before .before .before .skipped .ensures))) (k .ensures) in
     (omega arith, k .kept .1 .1 .1 .1 .1 .1 .0 ∙ l .inv .1, k .kept .1 .1 .1 .1 .1 .1 .1 .0 ∙ l .inv .2, k .kept .1 .1 .1 .1 .1 .1 .1 .1 .0 ∙ l .inv .3, stored-room _ _ _ _ _ _ _ _ (l .inv .4) g, partly-more _ _ _ _ _ (l .q) _ _ _ _ _ _ (c .before .before .before .before .before .before .before .before .before .before .before .before .before .before .before .before .before .before .loop .inv .1, c .before .before .before .before .before .before .before .before .before .before .before .before .before .before .before .before .before .before .loop .inv .2, c .before .before .before .before .before .before .before .before .before .before .before .before .before .before .before .before .before .before .loop .inv .3) (l .inv .5) g)
 
 gather-add-q-3 : (t : ℕ) → gather-lts.Need-add-q-3 (claims t) (gather-at t) gather.Post gather-Inv-loop gather-μ-loop
@@ -111,20 +110,23 @@ gather-loop-less-3 t c = search needs
 
 gather-loop-again-3 : (t : ℕ) → gather-lts.Need-loop-again-3 (claims t) (gather-at t) gather.Post gather-Inv-loop gather-μ-loop
 gather-loop-again-3 t c = let l = c .before .before .before .before .before .before .before .loop in
-    (omega arith, l .inv .1, l .inv .2, l .inv .3, l .inv .4, partly-more _ _ _ _ _ (l .q) _ _ _ _ _ _ (c .before .before .before .before .before .before .before .loop .inv .1, c .before .before .before .before .before .before .before .loop .inv .2, c .before .before .before .before .before .before .before .loop .inv .3) (l .inv .5) (grown-none _ _ _ _ _ (l .q) (child-still _ _ _ _ _ _ (c .before .before .before .before .before .before .before .before .before .before .before .before .before .before .before .pre .1 .0) (c .before .before .before .before .before .before .before .loop .q) (omega arith) _ (c .before .before .before .before .before .before .before .before .split-below .ensures) _ (c .before .before .before .lower-mask .ensures) (c .before .before .if3 .taken)) (meets-is _ _ _ _ _ _ (c .before .before .before .before .before .before .before .before .before .before .before .before .before .before .before .pre .1 .0) (c .before .before .before .before .before .before .before .loop .q) (omega arith) _ (c .before .touched .ensures) ∙ c .if4 .left) _ _))
+    (omega arith, l .inv .1, l .inv .2, l .inv .3, l .inv .4, partly-more _ _ _ _ _ (l .q) _ _ _ _ _ _ (c .before .before .before .before .before .before .before .loop .inv .1, c .before .before .before .before .before .before .before .loop .inv .2, c .before .before .before .before .before .before .before .loop .inv .3) (l .inv .5) (grown-none _ _ _ _ _ (l .q) (child-still _ _ _ _ _ _ (c .before .before .before .before .before .before .before .before .before .before .before .before .before .before .before .before .pre .1 .0) (c .before .before .before .before .before .before .before .loop .q) (omega arith) _ (c .before .before .before .before .before .before .before .before .split-below .ensures) _ (c .before .before .before .lower-mask .ensures) (c .before .before .if3 .taken)) (meets-is _ _ _ _ _ _ (c .before .before .before .before .before .before .before .before .before .before .before .before .before .before .before .before .pre .1 .0) (c .before .before .before .before .before .before .before .loop .q) (omega arith) _ (c .before .touched .ensures) ∙ c .if4 .left) _ _))
 
 gather-lower-at-requires : (t : ℕ) → gather-lts.Need-lower-at-requires (claims t) (gather-at t) gather.Post gather-Inv-loop gather-μ-loop
-gather-lower-at-requires t c κs = (omega arith, here-near _ _ _ _ _ _ (c .before .before .before .before .before .before .before .before .before .before .before .before .before .pre .1 .0) (2 ^ 62) (omega arith))
+gather-lower-at-requires t c κs = (omega arith, here-near _ _ _ _ _ _ (c .before .before .before .before .before .before .before .before .before .before .before .before .before .before .pre .1 .0) (2 ^ 62) (omega arith))
 
 gather-add-gather : (t : ℕ) → gather-lts.Need-add-gather (claims t) (gather-at t) gather.Post gather-Inv-loop gather-μ-loop
-gather-add-gather t c = record { fits = omega (arith, c .before .before .before .before .before .before .before .before .before .before .before .before .before .before .pre .1 .0 .shallow) }
+gather-add-gather t c = record { fits = omega (arith, c .before .before .before .before .before .before .before .before .before .before .before .before .before .before .before .pre .1 .0 .shallow) }
 
-gather-lower-gaps-requires : (t : ℕ) → gather-lts.Need-lower-gaps-requires (claims t) (gather-at t) gather.Post gather-Inv-loop gather-μ-loop
-gather-lower-gaps-requires t c κs = omega arith
+gather-slice-aggregate-gather : (t : ℕ) → gather-lts.Need-slice-aggregate-gather (claims t) (gather-at t) gather.Post gather-Inv-loop gather-μ-loop
+gather-slice-aggregate-gather t c = search needs
+
+gather-sub-gather : (t : ℕ) → gather-lts.Need-sub-gather (claims t) (gather-at t) gather.Post gather-Inv-loop gather-μ-loop
+gather-sub-gather t c = search needs
 
 gather-gather-requires : (t : ℕ) → gather-lts.Need-gather-requires (claims t) (gather-at t) gather.Post gather-Inv-loop gather-μ-loop
 gather-gather-requires t c κs = let l = c .before .before .before .before .before .before .before .before .before .before .loop in
-    (omega (arith, c .before .before .before .before .before .before .before .before .before .before .before .before .before .before .before .before .before .before .pre .0), let on = step-on _ _ _ _ _ _ (c .before .before .before .before .before .before .before .before .before .before .before .before .before .before .before .before .before .before .pre .1 .0) (omega arith) (l .q) (omega arith) _ (c .before .before .before .before .before .before .before .before .before .before .before .split-below .ensures) _ (c .before .before .before .before .before .before .lower-mask .ensures) (c .before .before .before .before .before .if3 .left) _ (c .before .before .before .before .lower-at .ensures) _ (c .before .before .before .lower-gaps .ensures) in (on .0, (on .1, l .inv .4)))
+    (omega (arith, c .before .before .before .before .before .before .before .before .before .before .before .before .before .before .before .before .before .before .before .pre .0), let on = step-on _ _ _ _ _ _ (c .before .before .before .before .before .before .before .before .before .before .before .before .before .before .before .before .before .before .before .pre .1 .0) (omega arith) (l .q) (omega arith) _ (c .before .before .before .before .before .before .before .before .before .before .before .split-below .ensures) _ (c .before .before .before .before .before .before .lower-mask .ensures) (c .before .before .before .before .before .if3 .left) _ (c .before .before .before .before .lower-at .ensures) in (on .0, (on .1, l .inv .4)))
 
 gather-add-q-4 : (t : ℕ) → gather-lts.Need-add-q-4 (claims t) (gather-at t) gather.Post gather-Inv-loop gather-μ-loop
 gather-add-q-4 t c = search needs
@@ -147,7 +149,7 @@ gather-same-length-3 : (t : ℕ) → gather-lts.Need-same-length-3 (claims t) (g
 gather-same-length-3 t c = search needs
 
 gather-returns-2 : (t : ℕ) → gather-lts.Need-returns-2 (claims t) (gather-at t) gather.Post gather-Inv-loop gather-μ-loop
-gather-returns-2 t c = let l = c .before .loop in partly-all _ _ _ _ _ (l .q) _ _ _ _ (omega arith) (omega arith) (c .before .before .before .before .before .before .before .before .before .pre .1 .1 .0) (l .inv .5)
+gather-returns-2 t c = let l = c .before .loop in partly-all _ _ _ _ _ (l .q) _ _ _ _ (omega arith) (omega arith) (c .before .before .before .before .before .before .before .before .before .before .pre .1 .1 .0) (l .inv .5)
 
 pub +gather-spec : {M : Type 1} → statement M
 +gather-spec = close μ-gather λ t. gather-lts.spec (claims t)
@@ -179,7 +181,8 @@ pub +gather-spec : {M : Type 1} → statement M
     (gather-loop-again-3 t)
     (gather-lower-at-requires t)
     (gather-add-gather t)
-    (gather-lower-gaps-requires t)
+    (gather-slice-aggregate-gather t)
+    (gather-sub-gather t)
     (gather-gather-requires t)
     (gather-add-q-4 t)
     (gather-loop-less-4 t)

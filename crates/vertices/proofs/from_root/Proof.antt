@@ -14,8 +14,11 @@ first-at-requires c κs = search needs
 leads-requires : tie.Need-leads-requires
 leads-requires c κs = search needs
 
+slice-aggregate-gather : tie.Need-slice-aggregate-gather
+slice-aggregate-gather c = search needs
+
 gather-requires : tie.Need-gather-requires
-gather-requires c κs = let r = root-here (nodesOf (now (c .before .before .before .before .before .before .before .before .before .before .before .args .keys)) (now (c .before .before .before .before .before .before .before .before .before .before .before .args .firsts))) _ (c .before .before .before .before .before .first-at .ensures) (sym (c .before .before .before .before .leads .ensures) ∙ c .before .before .before .if1 .taken) in (r .0, (r .1, omega arith))
+gather-requires c κs = let r = root-here (nodesOf (now (c .before .before .before .before .before .before .before .before .before .before .before .before .args .keys)) (now (c .before .before .before .before .before .before .before .before .before .before .before .before .args .firsts))) _ (c .before .before .before .before .before .before .first-at .ensures) (sym (c .before .before .before .before .before .leads .ensures) ∙ c .before .before .before .before .if1 .taken) in (r .0, (r .1, omega arith))
 
 same-length : tie.Need-same-length
 same-length c = search needs
@@ -38,6 +41,7 @@ from-root-spec =
     (tie.spec
     first-at-requires
     leads-requires
+    slice-aggregate-gather
     gather-requires
     same-length
     same-length-2

@@ -13,28 +13,28 @@ sub-i : tie.Need-sub-i
 sub-i c = search needs
 
 marked-requires : tie.Need-marked-requires
-marked-requires c κs = omega (arith, kept-lt (c .args .o) (c .args .q) (c .pre .1))
+marked-requires c κs = omega (arith, kept-lt (c .before .args .o) (c .before .args .q) (c .before .pre .1))
 
 mul-result : tie.Need-mul-result
-mul-result c = record { fits = omega (arith, kept-lt (c .before .before .args .o) (c .before .before .args .q) (c .before .before .pre .1)) }
+mul-result c = record { fits = omega (arith, kept-lt (c .before .before .before .args .o) (c .before .before .before .args .q) (c .before .before .before .pre .1)) }
 
-array-read-result : tie.Need-array-read-result
-array-read-result c = kept-lt (c .before .before .args .o) (c .before .before .args .q) (c .before .before .pre .1)
+shared-slice-read-result : tie.Need-shared-slice-read-result
+shared-slice-read-result c = omega (arith, kept-lt (c .before .before .before .before .args .o) (c .before .before .before .before .args .q) (c .before .before .before .before .pre .1), c .before .before .before .before .pre .2 .eight-places)
 
 add-result : tie.Need-add-result
-add-result c = record { fits = omega (arith, c .before .before .pre .2 .each (bitAnd (c .before .before .args .o) (7 - c .before .before .args .q)) (kept-lt (c .before .before .args .o) (c .before .before .args .q) (c .before .before .pre .1)), flip-lt (c .before .before .args .q) (c .before .before .args .o) (c .before .before .pre .0) (c .before .before .pre .1)) }
+add-result c = record { fits = omega (arith, c .before .before .before .before .pre .2 .each (bitAnd (c .before .before .before .before .args .o) (7 - c .before .before .before .before .args .q)) (kept-lt (c .before .before .before .before .args .o) (c .before .before .before .before .args .q) (c .before .before .before .before .pre .1)), flip-lt (c .before .before .before .before .args .q) (c .before .before .before .before .args .o) (c .before .before .before .before .pre .0) (c .before .before .before .before .pre .1)) }
 
 returns : tie.Need-returns
-returns c = sym (place-yes _ _ _ _ (sym (c .before .marked .ensures) ∙ c .if1 .taken))
+returns c = sym (place-yes _ _ _ _ (sym (c .before .before .marked .ensures) ∙ c .before .if1 .taken))
 
 mul-result-2 : tie.Need-mul-result-2
-mul-result-2 c = record { fits = omega (arith, kept-lt (c .before .before .args .o) (c .before .before .args .q) (c .before .before .pre .1)) }
+mul-result-2 c = record { fits = omega (arith, kept-lt (c .before .before .before .args .o) (c .before .before .before .args .q) (c .before .before .before .pre .1)) }
 
-array-read-result-2 : tie.Need-array-read-result-2
-array-read-result-2 c = kept-lt (c .before .before .args .o) (c .before .before .args .q) (c .before .before .pre .1)
+shared-slice-read-result-2 : tie.Need-shared-slice-read-result-2
+shared-slice-read-result-2 c = omega (arith, kept-lt (c .before .before .before .before .args .o) (c .before .before .before .before .args .q) (c .before .before .before .before .pre .1), c .before .before .before .before .pre .2 .eight-places)
 
 returns-2 : tie.Need-returns-2
-returns-2 c = sym (place-no _ _ _ _ (sym (c .before .marked .ensures) ∙ c .if1 .left))
+returns-2 c = sym (place-no _ _ _ _ (sym (c .before .before .marked .ensures) ∙ c .before .if1 .left))
 
 pub lower-place-spec : {M : Type 1} → statement M
 lower-place-spec =
@@ -43,9 +43,9 @@ lower-place-spec =
     sub-i
     marked-requires
     mul-result
-    array-read-result
+    shared-slice-read-result
     add-result
     returns
     mul-result-2
-    array-read-result-2
+    shared-slice-read-result-2
     returns-2)

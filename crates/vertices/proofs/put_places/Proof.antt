@@ -3,6 +3,7 @@ use Prim.Native.Nat.{ℕ, _*_, _-_, _≤_, _<_}
 use mathlib.Core.Path.{_≡_, refl}
 use native.Mathlib.Omega.{arith}
 use borrow.Author.Needs.{needs}
+use denote.Ref.{now}
 use lib.ListN.{length, length-set}
 use Rattle.vertices.specs.Block.{loweredPlace}
 use Rattle.vertices.proofs.Places.{Written, written-none, written-more, written-all}
@@ -19,19 +20,19 @@ loop-holds : tie.Need-loop-holds Inv-loop μ-loop
 loop-holds c = (omega arith, refl, written-none _ _ _)
 
 lower-place-requires : tie.Need-lower-place-requires Inv-loop μ-loop
-lower-place-requires c κs = (c .before .before .before .pre .0 .0, omega arith, c .before .before .before .pre .1)
+lower-place-requires c κs = (c .before .before .before .before .pre .0 .0, omega arith, c .before .before .before .before .pre .1)
 
 mul-places : tie.Need-mul-places Inv-loop μ-loop
-mul-places c = record { fits = omega (arith, c .before .before .before .before .pre .0 .1) }
+mul-places c = record { fits = omega (arith, c .before .before .before .before .before .pre .0 .1) }
 
 add-places : tie.Need-add-places Inv-loop μ-loop
-add-places c = record { fits = omega (arith, c .before .before .before .before .pre .0 .1) }
+add-places c = record { fits = omega (arith, c .before .before .before .before .before .pre .0 .1) }
 
 mul-places-2 : tie.Need-mul-places-2 Inv-loop μ-loop
-mul-places-2 c = record { fits = omega (arith, c .before .before .before .before .pre .0 .1) }
+mul-places-2 c = record { fits = omega (arith, c .before .before .before .before .before .pre .0 .1) }
 
 slice-write-places : tie.Need-slice-write-places Inv-loop μ-loop
-slice-write-places c = omega (arith, c .before .before .before .before .pre .0 .1, c .before .before .loop .inv .1)
+slice-write-places c = omega (arith, c .before .before .before .before .before .pre .0 .1, c .before .before .loop .inv .1)
 
 add-o : tie.Need-add-o Inv-loop μ-loop
 add-o c = search needs
@@ -40,7 +41,7 @@ loop-less : tie.Need-loop-less Inv-loop μ-loop
 loop-less c = search needs
 
 loop-again : tie.Need-loop-again Inv-loop μ-loop
-loop-again c = (omega arith, simp length-set (c .before .before .loop .inv .1), written-more (loweredPlace (c .before .before .before .before .args .at) (c .before .before .before .before .args .mask) (c .before .before .before .before .args .q)) (c .before .before .loop .o) (8 * c .before .before .before .before .args .n) _ _ _ (c .lower-place .ensures) (c .before .before .loop .inv .2))
+loop-again c = (omega arith, simp length-set (c .before .before .loop .inv .1), written-more (loweredPlace (now (c .before .before .before .before .before .args .at)) (c .before .before .before .before .before .args .mask) (c .before .before .before .before .before .args .q)) (c .before .before .loop .o) (8 * c .before .before .before .before .before .args .n) _ _ _ (c .lower-place .ensures) (c .before .before .loop .inv .2))
 
 same-length : tie.Need-same-length Inv-loop μ-loop
 same-length c = c .before .loop .inv .1

@@ -5,7 +5,7 @@ use Rattle.vertices.proofs.put_round.Statement.{statement}
 use Rattle.vertices.proofs.put_round.Tie as tie
 
 put-places-requires : tie.Need-put-places-requires
-put-places-requires c κs = ((c .before .before .before .pre .0, omega arith), c .before .before .before .pre .1)
+put-places-requires c κs = ((c .before .before .before .before .pre .0, omega arith), c .before .before .before .before .pre .1)
 
 same-length : tie.Need-same-length
 same-length c = search needs

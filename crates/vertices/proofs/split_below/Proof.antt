@@ -9,10 +9,10 @@ use Rattle.vertices.proofs.split_below.Statement.{statement}
 use Rattle.vertices.proofs.split_below.Tie as tie
 
 abbrev Inv-loop : tie.InvT-loop
-Inv-loop keys firsts cell mask at below₀ o₀ below o = (o ≤ 8) × Stacked (nodesOf keys firsts) cell at mask o below
+Inv-loop keys firsts cell at mask below₀ o₀ below o = (o ≤ 8) × Stacked (nodesOf keys firsts) cell at mask o below
 
 abbrev μ-loop : tie.MeasureT-loop
-μ-loop keys firsts cell mask at below₀ o₀ below o = 8 - o
+μ-loop keys firsts cell at mask below₀ o₀ below o = 8 - o
 
 loop-holds : tie.Need-loop-holds Inv-loop μ-loop
 loop-holds c = (omega arith, stacked-none _ _ _ _)
@@ -23,14 +23,14 @@ marked-requires c κs = search needs
 mul-split-children : tie.Need-mul-split-children Inv-loop μ-loop
 mul-split-children c = search needs
 
-array-read-split-children : tie.Need-array-read-split-children Inv-loop μ-loop
-array-read-split-children c = search needs
+shared-slice-read-split-children : tie.Need-shared-slice-read-split-children Inv-loop μ-loop
+shared-slice-read-split-children c = search needs
 
 lower-cell-requires : tie.Need-lower-cell-requires Inv-loop μ-loop
 lower-cell-requires c κs = search needs
 
 split-children-requires : tie.Need-split-children-requires Inv-loop μ-loop
-split-children-requires c κs = (c .before .before .before .before .before .before .before .pre .1 .each (c .before .before .before .before .loop .o) (omega arith), subst (λ (k : ℕ). k < 2 ^ 57) (sym (c .lower-cell .ensures)) (c .before .before .before .before .before .before .before .pre .0 (c .before .before .before .before .loop .o) (omega arith) (sym (c .before .before .marked .ensures) ∙ c .before .if1 .taken)))
+split-children-requires c κs = (c .before .before .before .before .before .before .before .before .before .pre .1 .each (c .before .before .before .before .before .loop .o) (omega arith), subst (λ (k : ℕ). k < 2 ^ 57) (sym (c .lower-cell .ensures)) (c .before .before .before .before .before .before .before .before .before .pre .0 (c .before .before .before .before .before .loop .o) (omega arith) (sym (c .before .before .before .marked .ensures) ∙ c .before .before .if1 .taken)))
 
 mul-below : tie.Need-mul-below Inv-loop μ-loop
 mul-below c = search needs
@@ -39,7 +39,7 @@ shl-below : tie.Need-shl-below Inv-loop μ-loop
 shl-below c = search needs
 
 add-below : tie.Need-add-below Inv-loop μ-loop
-add-below c = record { fits = stacked-fits _ _ _ _ (c .before .before .before .before .before .loop .o) (c .before .before .before .before .before .loop .below) (c .before .before .before .before .before .loop .inv .1) (c .split-children .result) (omega arith) (marks-as (c .before .lower-cell .ensures) (c .split-children .ensures)) }
+add-below c = record { fits = stacked-fits _ _ _ _ (c .before .before .before .before .before .before .loop .o) (c .before .before .before .before .before .before .loop .below) (c .before .before .before .before .before .before .loop .inv .1) (c .split-children .result) (omega arith) (marks-as (c .before .lower-cell .ensures) (c .split-children .ensures)) }
 
 add-o : tie.Need-add-o Inv-loop μ-loop
 add-o c = search needs
@@ -48,7 +48,7 @@ loop-less : tie.Need-loop-less Inv-loop μ-loop
 loop-less c = search needs
 
 loop-again : tie.Need-loop-again Inv-loop μ-loop
-loop-again c = (omega arith, stacked-yes _ _ _ _ (c .before .before .before .before .before .loop .o) (c .before .before .before .before .before .loop .below) (c .before .before .before .before .before .loop .inv .1) (c .split-children .result) (omega arith) (marks-as (c .before .lower-cell .ensures) (c .split-children .ensures)))
+loop-again c = (omega arith, stacked-yes _ _ _ _ (c .before .before .before .before .before .before .loop .o) (c .before .before .before .before .before .before .loop .below) (c .before .before .before .before .before .before .loop .inv .1) (c .split-children .result) (omega arith) (sym (c .before .before .before .before .marked .ensures) ∙ c .before .before .before .if1 .taken) (marks-as (c .before .lower-cell .ensures) (c .split-children .ensures)))
 
 add-o-2 : tie.Need-add-o-2 Inv-loop μ-loop
 add-o-2 c = search needs
@@ -71,7 +71,7 @@ split-below-spec =
     loop-holds
     marked-requires
     mul-split-children
-    array-read-split-children
+    shared-slice-read-split-children
     lower-cell-requires
     split-children-requires
     mul-below

@@ -13,10 +13,10 @@ put-requires : tie.Need-put-requires
 put-requires c κs = search needs
 
 put-round-requires : tie.Need-put-round-requires
-put-round-requires c κs = (c .before .before .before .before .before .before .before .before .before .before .before .before .pre .0, c .before .before .before .before .before .before .before .before .before .before .before .before .pre .2)
+put-round-requires c κs = (c .before .before .before .before .before .before .before .before .before .before .before .before .before .pre .0, c .before .before .before .before .before .before .before .before .before .before .before .before .before .pre .2)
 
 add-result : tie.Need-add-result
-add-result c = record { fits = c .before .before .before .before .before .before .before .before .before .before .before .before .before .before .before .pre .1 }
+add-result c = record { fits = c .before .before .before .before .before .before .before .before .before .before .before .before .before .before .before .before .pre .1 }
 
 same-length : tie.Need-same-length
 same-length c = search needs
