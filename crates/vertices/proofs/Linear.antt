@@ -17,7 +17,7 @@ use Rattle.morton.proofs.Levels.{cell-level, eight-pos}
 use Rattle.tree.specs.Down.{Nodes, firstAt, reach, isSplit}
 use Rattle.tree.proofs.Down.{split-steps, steps-in}
 use Rattle.geometry.specs.Near.{near, inCube}
-use Rattle.vertices.specs.Walk.{splitAt, entry, Spot, inTurn, lowCorner, divided, meets, ending, walked, spotsOf, verticesOf}
+use Rattle.vertices.specs.Walk.{splitAt, entry, Spot, inTurn, lowCorner, divided, meets, ending, walked, spotsOf, mostOf, verticesOf}
 use Rattle.geometry.proofs.Offsets.{Within, near-cell, in-cube}
 use Rattle.vertices.proofs.Entries.{entry-in, entry-out, split-low, split-over}
 use Rattle.vertices.proofs.Blocks.{some-is, walked-end, walked-on, walked-stop, ending-one, ending-none}
@@ -281,6 +281,9 @@ module _ (ks : Nodes) where
         total-most (ks .keys) 0 (lowCorner 0 1) (lowCorner 0 (1 + 1)),
       )
 
-  pub vertices-linear : length (spotsOf ks) ≤ 64 * length (ks .keys) + 1
+  pub vertices-linear-loose : length (spotsOf ks) ≤ 64 * length (ks .keys) + 1
   unfolding spotsOf
-  vertices-linear = omega (arith, steps-linear, listed-most limit 0 1)
+  vertices-linear-loose = omega (arith, steps-linear, listed-most limit 0 1)
+
+  pub vertices-linear : length (spotsOf ks) ≤ mostOf (length (ks .keys))
+  vertices-linear = ?

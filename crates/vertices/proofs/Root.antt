@@ -140,11 +140,8 @@ abbrev pub Whole : Nodes → ℕ → List ℕ → List ℕ → List ℕ → List
 Whole ks r v0 l0 v1 l1 = Laid (spotsOf ks) 0 r v0 l0 v1 l1
 
 module _ (ks : Nodes) where
-  count-is : (n : ℕ) (v0 l0 v1 l1 : List ℕ) → Whole ks n v0 l0 v1 l1 → n ≡ length (spotsOf ks)
+  pub count-is : (n : ℕ) (v0 l0 v1 l1 : List ℕ) → Whole ks n v0 l0 v1 l1 → n ≡ length (spotsOf ks)
   count-is n v0 l0 v1 l1 w = w .count ∙ zero-add (length (spotsOf ks))
-
-  pub short : (start n : ℕ) (was : Lists) (v0 l0 v1 l1 : List ℕ) → Whole ks n v0 l0 v1 l1 → (Room start n was → ⊥) → Room start (length (spotsOf ks)) was → ⊥
-  short start n was v0 l0 v1 l1 w f r = f (subst (λ (k : ℕ). Room start k was) (sym (count-is n v0 l0 v1 l1 w)) r)
 
   part-written : (t p : List ℕ) (start : ℕ) (xs : List ℕ) → start + length xs ≤ length t → p ≡ sets (midOf start (length t - start) t) 0 xs
       → putMid start (length t - start) t p ≡ written t start xs
@@ -157,22 +154,21 @@ module _ (ks : Nodes) where
       ∙ sets-eq xs (drop start t) 0 (omega (arith, length-drop start t))
       ∙ ap (λ (l : List ℕ). xs ++ l) (ap (λ (n : ℕ). drop n (drop start t)) (zero-add (length xs)) ∙ drop-drop (length xs) start t))
 
-  -- counted, then written into the parts that begin at the start place
-  pub wrote : (start n m : ℕ) (v0 l0 a0 b0 a1 b1 pv pl : List ℕ) → Whole ks n a0 b0 a1 b1
-      → Whole ks m (midOf start (length v0 - start) v0) (midOf start (length l0 - start) l0) pv pl → Room start n (listsOf v0 l0)
-      → TrustingSays ks start (listsOf v0 l0) (listsOf (putMid start (length v0 - start) v0 pv) (putMid start (length l0 - start) l0 pl)) (list.Count m)
-  wrote start n m v0 l0 a0 b0 a1 b1 pv pl a b r =
-      let c : m ≡ length (spotsOf ks) = count-is m _ _ pv pl b in
-      let e : n ≡ length (spotsOf ks) = count-is n a0 b0 a1 b1 a in
-      let hv : start + m ≤ length v0 = omega (arith, r .vertices) in
-      let hl : start + m ≤ length l0 = omega (arith, r .levels) in
+  -- written into the parts that begin at the start place
+  pub wrote : (start n : ℕ) (v0 l0 pv pl : List ℕ) → Whole ks n (midOf start (length v0 - start) v0) (midOf start (length l0 - start) l0) pv pl
+      → Room start (length (spotsOf ks)) (listsOf v0 l0)
+      → TrustingSays ks start (listsOf v0 l0) (listsOf (putMid start (length v0 - start) v0 pv) (putMid start (length l0 - start) l0 pl)) (list.Count n)
+  wrote start n v0 l0 pv pl w r =
+      let c : n ≡ length (spotsOf ks) = count-is n _ _ pv pl w in
+      let hv : start + n ≤ length v0 = omega (arith, r .vertices) in
+      let hl : start + n ≤ length l0 = omega (arith, r .levels) in
       let t : (pv ≡ sets (midOf start (length v0 - start) v0) 0 (verticesOf (spotsOf ks))) × (pl ≡ sets (midOf start (length l0 - start) l0) 0 (levelsOf (spotsOf ks))) =
-      b .tables (fits v0 hv) (fits l0 hl) in
+      w .tables (fits v0 hv) (fits l0 hl) in
       let pv-is : putMid start (length v0 - start) v0 pv ≡ written v0 start (verticesOf (spotsOf ks)) =
       part-written v0 pv start (verticesOf (spotsOf ks)) (omega (arith, vertices-length (spotsOf ks))) (t .0) in
       let pl-is : putMid start (length l0 - start) l0 pl ≡ written l0 start (levelsOf (spotsOf ks)) =
       part-written l0 pl start (levelsOf (spotsOf ks)) (omega (arith, levels-length (spotsOf ks))) (t .1) in
       (c, record { vertices = hv; levels = hl }, λ i. record { vertices = pv-is i; levels = pl-is i })
     where
-      fits : (t : List ℕ) → start + m ≤ length t → m ≤ length (midOf start (length t - start) t)
+      fits : (t : List ℕ) → start + n ≤ length t → n ≤ length (midOf start (length t - start) t)
       fits t h = omega (arith, ap length (take-all (length t - start) (drop start t) (omega (arith, length-drop start t))), length-drop start t)

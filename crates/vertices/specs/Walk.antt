@@ -1,5 +1,5 @@
 -- The walk over a tree's cells that finds its vertices, on any tables at all: no tree need be sound. Assumes nothing.
-use Prim.Native.Nat.{ℕ, zero, suc, _+_, _*_, _-_, _^_}
+use Prim.Native.Nat.{ℕ, zero, suc, _+_, _*_, _-_, _/_, _^_}
 use mathlib.Core.Bool.{Bool, true, false, cond, _&&_, _||_}
 use mathlib.Core.List.{List, [], _∷_, _++_}
 use lib.Dec.{leb, ltb}
@@ -66,6 +66,10 @@ walked (suc levels) n l c = cond (divided n l c) (inTurn (λ q. walked levels n 
 -- From the root down to the limit.
 unfoldable pub spotsOf : Nodes → List Spot
 spotsOf n = walked limit n 0 1
+
+-- On any tables of so many keys it finds no more: 19 for each eight keys below the root (`vertices-linear`).
+unfoldable pub mostOf : ℕ → ℕ
+mostOf keys = 19 * ((keys - 1) / 8)
 
 unfoldable pub verticesOf : List Spot → List ℕ
 verticesOf [] = []

@@ -7,7 +7,7 @@ ghost use lib.ListN.{length};
 ghost use Rattle.morton.specs.Level.{limit, Cell};
 ghost use Rattle.morton.specs.Field.{sub};
 ghost use Rattle.tree.specs.Tree.{treeOf, Decides};
-ghost use Rattle.vertices.specs.Walk.{divided, lowCorner, walked, spotsOf};
+ghost use Rattle.vertices.specs.Walk.{divided, lowCorner, walked, spotsOf, mostOf};
 ghost use lib.Seq.{sets};
 ghost use Rattle.vertices.specs.Listing.{listsOf, ListSays, TrustingSays};
 ghost use Rattle.vertices.specs.Cells.{eight, cellsOf, CellsSays};
@@ -437,8 +437,40 @@ fn whole(keys: &[u64], firsts: &[u16], vertices: &mut [u64], levels: &mut [u8]) 
     )
 }
 
+fn shorter(a: usize, b: usize) -> usize
+    ensures { λ r. ⌜ r ≡ min a b ⌝ }
+{
+    if a <= b { a } else { b }
+}
+
+// No tree of so many keys has more vertices, nor do tables that hold none: each vertex is one of the 19 middles of a split cell, and each split cell
+// has eight keys of its own below the root.
+fn most_vertices(keys: usize) -> usize
+    requires { ⌜ keys ≤ 2 ^ 61 ⌝ }
+    ensures { λ r. ⌜ r ≡ mostOf keys ⌝ }
+{
+    if keys == 0 {
+        return 0;
+    }
+    19 * ((keys - 1) / 8)
+}
+
+// Whether the list has room in tables of so many places. Only where there is less room than for the most vertices that there can be are they counted,
+// into tables that don't leave the call.
+fn list_has_room(keys: &[u64], firsts: &[u16], start: usize, len: usize) -> bool
+    ensures { λ r. ⌜ Decides r (start + length (spotsOf (nodesOf (now (keys .entry)) (now (firsts .entry)))) ≤ len) ⌝ }
+{
+    if has_room(len, start, most_vertices(keys.len())) {
+        return true;
+    }
+    let mut no_vertices = [0u64; 1];
+    let mut no_levels = [0u8; 1];
+    let n = whole(keys, firsts, &mut no_vertices, &mut no_levels);
+    has_room(len, start, n)
+}
+
 // The list of a tree's vertices, written from a start place on, for one who knows that the tree is sound; of other tables, what the same walk comes
-// to. They are counted first, into tables that don't leave the call.
+// to.
 pub fn list_trusting(
     keys: &[u64],
     firsts: &[u16],
@@ -448,17 +480,12 @@ pub fn list_trusting(
 ) -> ListAnswer
     ensures { λ r. ⌜ TrustingSays (nodesOf (now (keys .entry)) (now (firsts .entry))) start (listsOf (now (vertices .entry)) (now (levels .entry))) (listsOf (now (vertices .exit)) (now (levels .exit))) r ⌝ }
 {
-    let mut no_vertices = [0u64; 1];
-    let mut no_levels = [0u8; 1];
-    let n = whole(keys, firsts, &mut no_vertices, &mut no_levels);
-    if !has_room(vertices.len(), start, n) {
+    let len = shorter(vertices.len(), levels.len());
+    if !list_has_room(keys, firsts, start, len) {
         return ListAnswer::Refused(12);
     }
-    if !has_room(levels.len(), start, n) {
-        return ListAnswer::Refused(12);
-    }
-    let m = whole(keys, firsts, &mut vertices[start..], &mut levels[start..]);
-    ListAnswer::Count(m)
+    let n = whole(keys, firsts, &mut vertices[start..], &mut levels[start..]);
+    ListAnswer::Count(n)
 }
 
 // The list of a sound tree's vertices, written from a start place on.
@@ -477,12 +504,6 @@ pub fn list(
         return ListAnswer::Refused(11);
     }
     list_trusting(keys, firsts, start, vertices, levels)
-}
-
-fn shorter(a: usize, b: usize) -> usize
-    ensures { λ r. ⌜ r ≡ min a b ⌝ }
-{
-    if a <= b { a } else { b }
 }
 
 // The vertices from a number on, as many as have room, each with its level and the places of the eight nodes of its dual cell; how many there are. For
