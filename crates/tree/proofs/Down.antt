@@ -136,6 +136,16 @@ module _ (n : Nodes) where
       go true e h = omega (arith, reach-down l x, steps-in (reach n l (x / 8)) (x / 8) (split-steps l (x / 8) e) .1)
       go false e h = h
 
+  -- and it is that of a first child, or of one of the eight from there on
+  pub place-near : ((i : ℕ) → getD (n .firsts) i 0 < 2 ^ 16) → (l x : ℕ) → placeOver n l x < 2 ^ 16 + 7
+  unfolding placeOver firstAt
+  place-near k zero x = omega arith
+  place-near k (suc l) x = go (isSplit n l (x / 8)) (place-near k l (x / 8))
+    where
+      go : (r : Bool) → placeOver n l (x / 8) < 2 ^ 16 + 7 → if₀ r (reach n (suc l) x) (placeOver n l (x / 8)) < 2 ^ 16 + 7
+      go true h = omega (arith, reach-down l x, k (reach n l (x / 8)))
+      go false h = h
+
 -- ---- in a sound tree
 
 -- keys in a row

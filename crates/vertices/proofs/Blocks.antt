@@ -20,7 +20,7 @@ use Rattle.morton.proofs.Vertices.{up-pow, down-cell}
 use Rattle.tree.specs.Tree.{Decides}
 use Rattle.geometry.specs.Near.{near, inCube}
 use Rattle.vertices.specs.Walk.{splitAt, entry, placeAt, some, all, Spot, inTurn, lowCorner, divided, meets, ending, walked, verticesOf, levelsOf}
-use Rattle.vertices.specs.Block.{marked, Here, Small, BelowMarks, Near, loweredMark, loweredPlace, loweredAt, LoweredMarks, LoweredAt, Touched, Low, Laid}
+use Rattle.vertices.specs.Block.{marked, Here, Small, BelowMarks, Each16, Near, loweredMark, loweredPlace, loweredAt, LoweredMarks, LoweredAt, Touched, Low, Laid}
 use Rattle.tree.specs.Down.{Nodes, firstAt, steps, reach, isSplit}
 use Rattle.tree.proofs.Down.{steps-in, split-steps, over-split, place-split}
 use Rattle.morton.specs.Field.{bit, coord, sub}
@@ -143,20 +143,6 @@ module _ (ks : Nodes) where
       go true e h = omega (arith, ap length (walked-on ks l c f e), pow-suc 8 f)
       go false e h = omega (arith, ap length (walked-end ks l c (suc f) e), ending-most l c, eight-pos f, pow-suc 8 f)
 
--- a step from a split entry ends inside
-split-inside : (ks : Nodes) (l c o : ℕ) → splitAt ks l (entry ks l c o) ≡ true → firstAt ks (placeAt ks l c o) ≤ length (ks .keys)
-split-inside ks l c o e = go (inCube l c o) refl
-  where
-    go : (r : Bool) → inCube l c o ≡ r → firstAt ks (placeAt ks l c o) ≤ length (ks .keys)
-    go true i =
-        let s : isSplit ks l (near l c o) ≡ true = sym (split-over ks l (near l c o) (near-cell l c o)) ∙ ap (splitAt ks l) (sym (entry-in ks l c o i)) ∙ e in
-        omega (
-          arith,
-          ap (firstAt ks) (place-in ks l c o i ∙ place-split ks l (near l c o) s),
-          steps-in ks (reach ks l (near l c o)) (near l c o) (split-steps ks l (near l c o) s) .1,
-        )
-    go false i = absurd (true≢false (sym e ∙ split-low ks l (entry ks l c o) (omega (arith, entry-out ks l c o i, eight-pos l))))
-
 -- a split entry is the cell that lies that way
 side-entry : (ks : Nodes) (l c o : ℕ) → l ≤ limit → Cell l c → o < 8 → splitAt ks l (entry ks l c o) ≡ true → sub c o ≡ entry ks l c o
 unfolding near Within
@@ -229,29 +215,19 @@ module _ (ks : Nodes) (l c : ℕ) (at : List ℕ) (mask low : ℕ) (h : Here ks 
   pub here-leaf : (o : ℕ) → o < 8 → marked mask o ≡ false → getD at o 0 ≡ placeAt ks l c o
   here-leaf o ho e = h .stands o ho ∙ ap (λ (r : Bool). if₀ r (firstAt ks (placeAt ks l c o)) (placeAt ks l c o)) e
 
-  pub here-near : (most : ℕ) → length (ks .keys) ≤ most → Near at most
-  here-near most k = record { eight-places = h .eight-places; each = λ o ho. go o ho (marked mask o) refl }
+  pub here-near : Each16 (ks .firsts) → Near at
+  unfolding firstAt
+  here-near k = record { eight-places = h .eight-places; each = λ o ho. go o ho (marked mask o) refl }
     where
-      go : (o : ℕ) → o < 8 → (r : Bool) → marked mask o ≡ r → getD at o 0 ≤ most
-      go o ho true e = omega (arith, here-split o ho e, split-inside ks l c o (sym (h .marks o ho) ∙ e))
-      go o ho false e = omega (arith, here-leaf o ho e, place-most ks l c o)
+      go : (o : ℕ) → o < 8 → (r : Bool) → marked mask o ≡ r → getD at o 0 < 2 ^ 16 + 7
+      go o ho true e = omega (arith, here-split o ho e, k (placeAt ks l c o))
+      go o ho false e = omega (arith, here-leaf o ho e, place-most ks k l c o)
 
   pub here-bound : c < 2 ^ 60
   here-bound = omega (arith, cell-lt l limit c (h .cell) (h .shallow))
 
   pub here-child : (q : ℕ) → q < 8 → Cell (l + 1) (8 * c + q)
   here-child q hq = subst (λ (n : ℕ). Cell n (8 * c + q)) (sym (add-one l)) (child-cell l c q (h .cell) (omega arith))
-
-  -- none is marked, or some is
-  pub here-still : mask ≡ 0 → divided ks l c ≡ false
-  unfolding divided
-  here-still z = none-is (λ o. splitAt ks l (entry ks l c o)) 8 (λ o ho. sym (h .marks o ho) ∙ ap (λ (m : ℕ). marked m o) z ∙ marked-zero o)
-
-  pub here-divided : (mask ≡ 0 → ⊥) → divided ks l c ≡ true
-  unfolding divided
-  here-divided n =
-      let s = some-marked 8 mask (h .small) n in
-      some-if (λ o. splitAt ks l (entry ks l c o)) 8 (s .0) (s .1) (sym (h .marks (s .0) (s .1)) ∙ s .2)
 
   module _ (q : ℕ) (hq : q < 8) where
     module _ (o : ℕ) (ho : o < 8) where
@@ -301,6 +277,12 @@ module _ (ks : Nodes) (l c : ℕ) (at : List ℕ) (mask low : ℕ) (h : Here ks 
         child-still z =
             none-is (λ o. splitAt ks (suc l) (entry ks (suc l) (8 * c + q) o)) 8
             (λ o ho. sym (mark-step o ho) ∙ (sym (lm .marks o ho) ∙ (ap (λ (m : ℕ). marked m o) z ∙ marked-zero o)))
+
+        pub child-divided : (r ≡ 0 → ⊥) → divided ks (suc l) (8 * c + q) ≡ true
+        unfolding divided
+        child-divided n =
+            let s = some-marked 8 r (lm .small) n in
+            some-if (λ o. splitAt ks (suc l) (entry ks (suc l) (8 * c + q) o)) 8 (s .0) (s .1) (sym (mark-step (s .0) (s .1)) ∙ sym (lm .marks (s .0) (s .1)) ∙ s .2)
 
         pub here-step : l < limit → (e : List ℕ) → LoweredAt (ks .firsts) at mask r q e → Here ks (suc l) (8 * c + q) e r (bitAnd low (7 - q))
         unfolding loweredAt firstAt
@@ -352,7 +334,7 @@ pub step-on : (ks : Nodes) (l c : ℕ) (at : List ℕ) (mask low : ℕ) (h : Her
     → Here ks (l + 1) (8 * c + q) e r (bitAnd low (7 - q)) × (divided ks (l + 1) (8 * c + q) ≡ true)
 step-on ks l c at mask low h hl q hq below bm r lm nz e la =
     subst (λ (n : ℕ). Here ks n (8 * c + q) e r (bitAnd low (7 - q)) × (divided ks n (8 * c + q) ≡ true)) (sym (add-one l))
-    (there, here-divided ks (suc l) (8 * c + q) e r (bitAnd low (7 - q)) there nz)
+    (there, child-divided ks l c at mask low h q hq below bm r lm nz)
   where
     there : Here ks (suc l) (8 * c + q) e r (bitAnd low (7 - q))
     there = here-step ks l c at mask low h q hq below bm r lm hl e la

@@ -8,12 +8,12 @@ use native.Mathlib.Decide.{decLt}
 use native.Mathlib.Omega.{arith}
 use lib.Bits.{bitAnd, bitXor}
 use lib.Dec.{leb}
-use lib.ListN.{length}
+use lib.ListN.{getD}
 use borrow.Author.Tests.{leb-true, le-leb, lt-leb}
 use Rattle.morton.specs.Level.{if₀, Cell}
 use Rattle.morton.proofs.Levels.{and-true, eight-pos}
 use Rattle.tree.specs.Down.{Nodes, firstAt, steps, reach, isSplit, over, placeOver}
-use Rattle.tree.proofs.Down.{split-below, reach-down, over-down, over-stay, place-down, place-stay, over-split, place-split, over-le, over-pos, over-same, place-le}
+use Rattle.tree.proofs.Down.{split-below, reach-down, over-down, over-stay, place-down, place-stay, over-split, place-split, over-le, over-pos, over-same, place-near}
 use Rattle.geometry.specs.Near.{near, inCube}
 use Rattle.vertices.specs.Walk.{splitAt, entry, placeAt}
 use Rattle.geometry.proofs.Offsets.{Within, kept-lt, flip-lt, near-cell, in-cube, cube-in, within-up, within-down, near-step}
@@ -82,19 +82,20 @@ module _ (ks : Nodes) where
     unfolding placeAt
     place-out e = ap (λ (r : Bool). if₀ r (placeOver ks l (near l c o)) 0) e
 
-    pub place-most : placeAt ks l c o ≤ length (ks .keys)
-    place-most = go (inCube l c o) refl
-      where
-        go : (r : Bool) → inCube l c o ≡ r → placeAt ks l c o ≤ length (ks .keys)
-        go true e = omega (arith, place-in e, place-le ks l (near l c o))
-        go false e = omega (arith, place-out e)
-
     pub entry-lt : entry ks l c o < 2 * 8 ^ l
     entry-lt = go (inCube l c o) refl
       where
         go : (r : Bool) → inCube l c o ≡ r → entry ks l c o < 2 * 8 ^ l
         go true e = omega (arith, entry-in e, over-le ks l (near l c o), near-cell l c o .high)
         go false e = omega (arith, entry-out e, eight-pos l)
+
+  -- a place is that of a first child, or of one of the eight from there on
+  pub place-most : ((i : ℕ) → getD (ks .firsts) i 0 < 2 ^ 16) → (l c o : ℕ) → placeAt ks l c o < 2 ^ 16 + 7
+  place-most k l c o = go (inCube l c o) refl
+    where
+      go : (r : Bool) → inCube l c o ≡ r → placeAt ks l c o < 2 ^ 16 + 7
+      go true e = omega (arith, place-in l c o e, place-near ks k l (near l c o))
+      go false e = omega (arith, place-out l c o e)
 
   module _ (l c q o : ℕ) (hq : q < 8) (ho : o < 8) where
     cube-step : inCube (suc l) (8 * c + q) o ≡ inCube l c (bitAnd o (7 - q))

@@ -254,11 +254,11 @@ module _ (ks : Nodes) where
           subst (λ (ss : List Spot). Stored ks from room ss at n t0 t1) (sym (ap (λ (k : ℕ). walked k ks l c) s ∙ walked-on ks l c (limit - suc l) d))
           (subst (λ (k : ℕ). Partly l c k at n t0 t1) e p)
 
-      -- too deep to go on
-      pub partly-deep : (at : ℕ) (t : Cells) → limit ≤ l → divided ks l c ≡ true → Stored ks from room (walked (limit - l) ks l c) at at t t
-      partly-deep at t h d =
-          let z : limit - l ≡ 0 = omega arith in
-          subst (λ (ss : List Spot). Stored ks from room ss at at t t) (sym (ap (λ (k : ℕ). walked k ks l c) z ∙ walked-stop ks l c d)) (stored-none at t)
+      -- a child that is too deep to go on
+      pub grown-deep : (q n : ℕ) (t : Cells) → limit ≤ l + 1 → divided ks (suc l) (8 * c + q) ≡ true → Grown l c q n n t t
+      grown-deep q n t h d =
+          let z : limit - suc l ≡ 0 = omega arith in
+          subst (λ (ss : List Spot). Stored ks from room ss n n t t) (sym (ap (λ (k : ℕ). walked k ks (suc l) (8 * c + q)) z ∙ walked-stop ks (suc l) (8 * c + q) d)) (stored-none n t)
 
       -- a child that is skipped
       pub grown-skipped : (q n : ℕ) (t : Cells) → l < limit → Skipped (l + 1) (8 * c + q) from n room → Grown l c q n n t t

@@ -92,10 +92,14 @@ pub record Laid (ss : List Spot) (at r : ℕ) (v0 l0 v1 l1 : List ℕ) : Type 0 
 
 -- ---- places
 
--- There are eight, and they lie in reach of the table.
-pub record Near (at : List ℕ) (most : ℕ) : Type 0 where
+-- A table of 16-bit numbers.
+abbrev pub Each16 : List ℕ → Type 0
+Each16 fs = (i : ℕ) → getD fs i 0 < 2 ^ 16
+
+-- There are eight places, of first children or of one of eight from there on.
+pub record Near (at : List ℕ) : Type 0 where
   pub eight-places : length at ≡ 8
-  pub each : (o : ℕ) → o < 8 → getD at o 0 ≤ most
+  pub each : (o : ℕ) → o < 8 → getD at o 0 < 2 ^ 16 + 7
 
 -- The place of entry o of child q.
 unfoldable pub loweredPlace : List ℕ → ℕ → ℕ → ℕ → ℕ

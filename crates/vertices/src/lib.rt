@@ -12,7 +12,7 @@ ghost use lib.Seq.{sets};
 ghost use Rattle.vertices.specs.Listing.{listsOf, ListSays, TrustingSays};
 ghost use Rattle.vertices.specs.Cells.{eight, cellsOf, CellsSays};
 ghost use Rattle.tree.specs.Down.{nodesOf};
-ghost use Rattle.vertices.specs.Block.{seenBy, keptBy, marked, Here, Small, ChildlessSays, ChildMarks, BelowMarks, SeenSays, LoweredMarks, Touched, PutSays, RoundSays, Laid, Near, loweredPlace, LoweredAt, Stored, TakeSays, Skipped};
+ghost use Rattle.vertices.specs.Block.{seenBy, keptBy, marked, Here, Small, ChildlessSays, ChildMarks, BelowMarks, SeenSays, LoweredMarks, Touched, PutSays, RoundSays, Laid, Near, Each16, loweredPlace, LoweredAt, Stored, TakeSays, Skipped};
 
 // How many vertices there are, or the number of the refusal.
 pub enum ListAnswer {
@@ -78,15 +78,15 @@ fn lower_cell(cell: u64, o: usize) -> u64
 }
 
 // The same for each split entry of a block, eight bits for each entry: it is the cell that lies that way.
-fn split_below(keys: &[u64], firsts: &[u16], cell: u64, at: &[usize], mask: u64) -> u64
-    requires { ⌜ Small cell mask × Near (now at) (2 ^ 62) ⌝ }
+fn split_below(keys: &[u64], firsts: &[u16], cell: u64, at: &[u32], mask: u64) -> u64
+    requires { ⌜ Small cell mask × Near (now at) ⌝ }
     ensures { λ r. ⌜ BelowMarks (nodesOf (now (keys .entry)) (now (firsts .entry))) cell (now (at .entry)) mask r ⌝ }
 {
     let mut below = 0;
     let mut o: usize = 0;
     while o < 8 {
         if marked(mask, o) {
-            below += split_children(keys, firsts, at[o], lower_cell(cell, o)) << (8 * o);
+            below += split_children(keys, firsts, at[o] as usize, lower_cell(cell, o)) << (8 * o);
             o += 1;
         } else {
             o += 1;
@@ -208,33 +208,33 @@ fn has_room(len: usize, start: usize, n: usize) -> bool
 }
 
 // The place of entry o of child q.
-fn lower_place(at: &[usize], mask: u64, q: usize, o: usize) -> usize
-    requires { ⌜ (q < 8) × (o < 8) × Near (now at) (2 ^ 62) ⌝ }
+fn lower_place(at: &[u32], mask: u64, q: usize, o: usize) -> u32
+    requires { ⌜ (q < 8) × (o < 8) × Near (now at) ⌝ }
     ensures { λ r. ⌜ r ≡ loweredPlace (now (at .entry)) mask q o ⌝ }
 {
     let i = o & (7 - q);
     if marked(mask, i) {
-        return at[i] + (q ^ o);
+        return at[i] + (q ^ o) as u32;
     }
     at[i]
 }
 
 // Writes the places of child q's entries, for the vertex at a place.
-fn put_places(places: &mut [usize], n: usize, at: &[usize], mask: u64, q: usize)
+fn put_places(places: &mut [usize], n: usize, at: &[u32], mask: u64, q: usize)
     requires { ⌜ (q < 8) × (8 * n + 8 ≤ length (now places)) ⌝ }
-    requires { ⌜ Near (now at) (2 ^ 62) ⌝ }
+    requires { ⌜ Near (now at) ⌝ }
     ensures { λ _. ⌜ now (places .exit) ≡ sets (now (places .entry)) (8 * n) (eight (loweredPlace (now (at .entry)) mask q)) ⌝ }
 {
     let mut o: usize = 0;
     while o < 8 {
-        places[8 * n + o] = lower_place(at, mask, q, o);
+        places[8 * n + o] = lower_place(at, mask, q, o) as usize;
         o += 1;
     }
 }
 
 // The same if the table has room for them.
-fn put_round(places: &mut [usize], n: usize, at: &[usize], mask: u64, q: usize)
-    requires { ⌜ (q < 8) × Near (now at) (2 ^ 62) ⌝ }
+fn put_round(places: &mut [usize], n: usize, at: &[u32], mask: u64, q: usize)
+    requires { ⌜ (q < 8) × Near (now at) ⌝ }
     ensures { λ _. ⌜ RoundSays (now (places .entry)) n (eight (loweredPlace (now (at .entry)) mask q)) (now (places .exit)) ⌝ }
 {
     if n < places.len() / 8 {
@@ -266,7 +266,7 @@ fn take(
     level: u8,
     vertex: u64,
     from: u64,
-    at: &[usize],
+    at: &[u32],
     mask: u64,
     q: usize,
     vertices: &mut [u64],
@@ -274,7 +274,7 @@ fn take(
     places: &mut [usize],
     n: usize,
 ) -> usize
-    requires { ⌜ (q < 8) × (n + 1 < 2 ^ 64) × Near (now at) (2 ^ 62) ⌝ }
+    requires { ⌜ (q < 8) × (n + 1 < 2 ^ 64) × Near (now at) ⌝ }
     ensures { λ r. ⌜
         TakeSays from vertex level n (eight (loweredPlace (now (at .entry)) mask q)) (cellsOf (now (vertices .entry)) (now (levels .entry)) (now (places .entry)))
         (cellsOf (now (vertices .exit)) (now (levels .exit)) (now (places .exit))) r ⌝ }
@@ -288,16 +288,16 @@ fn take(
 }
 
 // The places of child q's entries; of the split ones, those of their first children.
-fn lower_at(firsts: &[u16], at: &[usize], mask: u64, child: u64, q: usize) -> [usize; 8]
-    requires { ⌜ (q < 8) × Near (now at) (2 ^ 62) ⌝ }
+fn lower_at(firsts: &[u16], at: &[u32], mask: u64, child: u64, q: usize) -> [u32; 8]
+    requires { ⌜ (q < 8) × Near (now at) × Each16 (now firsts) ⌝ }
     ensures { λ r. ⌜ LoweredAt (now (firsts .entry)) (now (at .entry)) mask child q r ⌝ }
 {
-    let mut out = [0usize; 8];
+    let mut out = [0u32; 8];
     let mut o: usize = 0;
     while o < 8 {
         let place = lower_place(at, mask, q, o);
         if marked(child, o) {
-            out[o] = tree::first_at(firsts, place);
+            out[o] = tree::first_at(firsts, place as usize) as u32;
             o += 1;
         } else {
             out[o] = place;
@@ -315,7 +315,7 @@ fn gather(
     room: usize,
     level: u8,
     cell: u64,
-    at: &[usize],
+    at: &[u32],
     mask: u64,
     low: usize,
     vertices: &mut [u64],
@@ -325,14 +325,11 @@ fn gather(
 ) -> usize
     requires { ⌜ Here (nodesOf (now keys) (now firsts)) level cell (now at) mask low ⌝ }
     requires { ⌜ divided (nodesOf (now keys) (now firsts)) level cell ≡ true ⌝ }
-    requires { ⌜ n ≤ room ⌝ }
+    requires { ⌜ (n ≤ room) × (level < limit) × Each16 (now firsts) ⌝ }
     ensures { λ r. ⌜
         Stored (nodesOf (now (keys .entry)) (now (firsts .entry))) from room (walked (limit - level) (nodesOf (now (keys .entry)) (now (firsts .entry))) level cell) n r
         (cellsOf (now (vertices .entry)) (now (levels .entry)) (now (places .entry))) (cellsOf (now (vertices .exit)) (now (levels .exit)) (now (places .exit))) ⌝ }
 {
-    if level as u32 >= morton::LIMIT {
-        return n;
-    }
     let below = split_below(keys, firsts, cell, at, mask);
     let mut m = n;
     let mut q: usize = 0;
@@ -362,23 +359,27 @@ fn gather(
                     q += 1;
                 }
             } else {
-                let lowered = lower_at(firsts, at, mask, child_mask, q);
-                m = gather(
-                    keys,
-                    firsts,
-                    from,
-                    room,
-                    level + 1,
-                    child,
-                    &lowered,
-                    child_mask,
-                    low & (7 - q),
-                    vertices,
-                    levels,
-                    places,
-                    m,
-                );
-                q += 1;
+                if level as u32 + 1 < morton::LIMIT {
+                    let lowered = lower_at(firsts, at, mask, child_mask, q);
+                    m = gather(
+                        keys,
+                        firsts,
+                        from,
+                        room,
+                        level + 1,
+                        child,
+                        &lowered,
+                        child_mask,
+                        low & (7 - q),
+                        vertices,
+                        levels,
+                        places,
+                        m,
+                    );
+                    q += 1;
+                } else {
+                    q += 1;
+                }
             }
         }
     }
@@ -401,7 +402,7 @@ fn from_root(
 {
     let first = tree::first_at(firsts, 0);
     if tree::leads(keys, first, 8) {
-        let at = [first, 0, 0, 0, 0, 0, 0, 0];
+        let at = [first as u32, 0, 0, 0, 0, 0, 0, 0];
         return gather(
             keys,
             firsts,
