@@ -18,7 +18,7 @@ use Rattle.geometry.specs.Corner.{Corner, StrictlyInside}
 use Rattle.geometry.proofs.Place.{key-down, OnGrid, corner-of-side, side-on-grid}
 
 -- the coordinates of a key that is moved down to the vertex grid
-point-down : (L q a : ℕ) → L ≤ deepest → a < 3 → coord deepest (q * 8 ^ (deepest - L)) a ≡ coord L q a * 2 ^ (deepest - L)
+pub point-down : (L q a : ℕ) → L ≤ deepest → a < 3 → coord deepest (q * 8 ^ (deepest - L)) a ≡ coord L q a * 2 ^ (deepest - L)
 point-down L q a h l =
     let e : deepest ≡ L + (deepest - L) = omega arith in
     ap (λ (n : ℕ). coord n (q * 8 ^ (deepest - L)) a) e ∙ coord-down (deepest - L) L q a l

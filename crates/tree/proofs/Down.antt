@@ -14,7 +14,7 @@ use Rattle.morton.specs.Level.{if₀, Cell, level, parentOf}
 use Rattle.morton.proofs.Levels.{and-true, eight-pos}
 use Rattle.tree.specs.Tree.{Tree, StandsAt, In, Ascending, AllChildren, NoChild, FirstChild, Sound, Decides}
 use Rattle.tree.specs.Down.{Nodes, nodesOf, firstAt, leads, steps, reach, isSplit, over, placeOver}
-use Rattle.tree.proofs.Lists.{order, in-at, in-cast, stands-in, ascending-place}
+use Rattle.tree.proofs.Lists.{order, in-at, in-cast, in-stands, stands-in, ascending-place}
 use Rattle.tree.proofs.Pass.{said, denied, up≤, up-back, eighth}
 
 -- ---- leading
@@ -264,3 +264,26 @@ module _ (t : Tree) (S : Sound t) where
           let s : StandsAt (t .keys) (reach nodes (suc l) x) x = subst (StandsAt (t .keys) (reach nodes (suc l) x)) w (child-at (reach nodes l (x / 8)) (x / 8) (r .stands) (above .1) (x % 8) (omega arith)) in
           record { stands = s; split = subst (λ (b : Bool). Decides b (In (8 * x) (t .keys))) (sym (split-below nodes l x e)) (steps-decides (reach nodes (suc l) x) x s) }
       go r false e = absurd (denied (isSplit nodes l (x / 8)) _ e (r .split) (above .1))
+
+  -- the last eight are the children of a node
+  last-eight : 1 < length (t .keys) → (p : ℕ) × (p < length (t .firsts)) × (getD (t .firsts) p 0 % 8 ≡ 1) × (getD (t .firsts) p 0 + 8 ≡ length (t .keys))
+  last-eight h =
+      let e : ℕ = length (t .keys) - 1 in
+      let x : ℕ = getD (t .keys) e 0 in
+      let up = parent-in x (in-at (t .keys) e (omega arith)) (λ z. omega (arith, S .ascending 0 e (omega arith) (omega arith), S .first .here)) in
+      let c = child-at (up .0 .place) (x / 8) (in-stands (up .0)) (up .1) in
+      let a = c 0 (omega arith) in
+      let b = c 7 (omega arith) in
+      let f : ℕ = getD (t .firsts) (up .0 .place) 0 in
+      let first : (f + 0) % 8 ≡ 1 = first-place (f + 0) (x / 8) (record { inside = a .inside; here = omega (arith, a .here) }) in
+      let last : e ≤ f + 7 = ⊎-elim (λ l. absurd (omega (arith, S .ascending (f + 7) e l (omega arith), b .here))) (λ l. l) (order (f + 7) e) in
+      (up .0 .place, omega (arith, up .0 .inside, S .as-many-firsts), omega arith, omega (arith, b .inside))
+
+  -- one node and eights
+  pub sound-eights : length (t .keys) % 8 ≡ 1
+  sound-eights = ⊎-elim (λ h. omega (arith, last-eight h)) (λ h. omega (arith, S .first .inside)) (order 1 (length (t .keys)))
+
+  -- no more nodes than entries of 16 bits can point to
+  pub sound-few : ((i : ℕ) → i < length (t .firsts) → getD (t .firsts) i 0 < 2 ^ 16) → length (t .keys) ≤ 65537
+  sound-few u =
+      ⊎-elim (λ h. let q = last-eight h in omega (arith, q .2, u (q .0) (q .1))) (λ h. omega arith) (order 1 (length (t .keys)))

@@ -67,6 +67,16 @@ walked (suc levels) n l c = cond (divided n l c) (inTurn (λ q. walked levels n 
 unfoldable pub spotsOf : Nodes → List Spot
 spotsOf n = walked limit n 0 1
 
+-- The sum of f 0, f 1, .., f (n - 1).
+unfoldable pub sum : (ℕ → ℕ) → ℕ → ℕ
+sum f zero = 0
+sum f (suc n) = sum f n + f n
+
+-- How many cells the walk goes through from c on, with c itself.
+unfoldable pub visited : ℕ → Nodes → ℕ → ℕ → ℕ
+visited zero n l c = 1
+visited (suc levels) n l c = 1 + if₀ (divided n l c) (sum (λ q. visited levels n (suc l) (8 * c + q)) 8) 0
+
 -- On any tables of so many keys it finds no more: 19 for each eight keys below the root (`vertices-linear`).
 unfoldable pub mostOf : ℕ → ℕ
 mostOf keys = 19 * ((keys - 1) / 8)
