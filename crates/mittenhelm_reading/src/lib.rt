@@ -70,16 +70,22 @@ pub fn hand_count(answer: ListAnswer, count: &mut usize) -> u32
 }
 
 #[no_mangle]
-pub extern "C" fn mittenhelm_sound(keys: &[u64], distances: &[f32], leaves: &[u64]) -> bool
-    ensures { λ r. ⌜ Decides r (Sound (treeOf (now (keys .entry)) (now (distances .entry)) (now (leaves .entry)))) ⌝ }
+pub extern "C" fn mittenhelm_sound(
+    keys: &[u64],
+    distances: &[f32],
+    firsts: &[u16],
+    leaves: &[u64],
+) -> bool
+    ensures { λ r. ⌜ Decides r (Sound (treeOf (now (keys .entry)) (now (distances .entry)) (now (firsts .entry)) (now (leaves .entry)))) ⌝ }
 {
-    tree::sound(keys, distances, leaves)
+    tree::sound(keys, distances, firsts, leaves)
 }
 
 #[no_mangle]
 pub extern "C" fn mittenhelm_look_up(
     keys: &[u64],
     distances: &[f32],
+    firsts: &[u16],
     leaves: &[u64],
     key: u64,
     found: &mut u64,
@@ -87,11 +93,11 @@ pub extern "C" fn mittenhelm_look_up(
     tried: &mut u32,
 ) -> u32
     ensures { λ r. ⌜
-        HandsLookup (treeOf (now (keys .entry)) (now (distances .entry)) (now (leaves .entry))) key
+        HandsLookup (treeOf (now (keys .entry)) (now (distances .entry)) (now (firsts .entry)) (now (leaves .entry))) key
         (foundAt (now (found .entry)) (now (distance .entry)) (now (tried .entry))) r
         (foundAt (now (found .exit)) (now (distance .exit)) (now (tried .exit))) ⌝ }
 {
-    let answer = tree::look_up(keys, distances, leaves, key);
+    let answer = tree::look_up(keys, distances, firsts, leaves, key);
     hand_found(answer, found, distance, tried)
 }
 
@@ -99,6 +105,7 @@ pub extern "C" fn mittenhelm_look_up(
 pub extern "C" fn mittenhelm_list(
     keys: &[u64],
     distances: &[f32],
+    firsts: &[u16],
     leaves: &[u64],
     start: usize,
     vertices: &mut [u64],
@@ -106,11 +113,11 @@ pub extern "C" fn mittenhelm_list(
     count: &mut usize,
 ) -> u32
     ensures { λ r. ⌜
-        HandsList (treeOf (now (keys .entry)) (now (distances .entry)) (now (leaves .entry))) start
+        HandsList (treeOf (now (keys .entry)) (now (distances .entry)) (now (firsts .entry)) (now (leaves .entry))) start
         (listsOf (now (vertices .entry)) (now (levels .entry))) (listsOf (now (vertices .exit)) (now (levels .exit)))
         (now (count .entry)) r (now (count .exit)) ⌝ }
 {
-    let answer = vertices::list(keys, distances, leaves, start, vertices, levels);
+    let answer = vertices::list(keys, distances, firsts, leaves, start, vertices, levels);
     hand_count(answer, count)
 }
 
@@ -118,6 +125,7 @@ pub extern "C" fn mittenhelm_list(
 pub extern "C" fn mittenhelm_dual_cell(
     keys: &[u64],
     distances: &[f32],
+    firsts: &[u16],
     leaves: &[u64],
     vertex: u64,
     level: u32,
@@ -126,11 +134,11 @@ pub extern "C" fn mittenhelm_dual_cell(
     tried: &mut u32,
 ) -> u32
     ensures { λ r. ⌜
-        HandsDual (treeOf (now (keys .entry)) (now (distances .entry)) (now (leaves .entry))) level vertex
+        HandsDual (treeOf (now (keys .entry)) (now (distances .entry)) (now (firsts .entry)) (now (leaves .entry))) level vertex
         (eightAt (now (nodes .entry)) (now (values .entry)) (now (tried .entry))) r
         (eightAt (now (nodes .exit)) (now (values .exit)) (now (tried .exit))) ⌝ }
 {
-    let cell = dual::dual_cell(keys, distances, leaves, vertex, level);
+    let cell = dual::dual_cell(keys, distances, firsts, leaves, vertex, level);
     hand_eight(cell, nodes, values, tried)
 }
 
