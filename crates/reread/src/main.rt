@@ -22,12 +22,21 @@ fn read_line() -> Line {
 }
 
 // Writes one place of a tree's tables, if all have it.
-fn put(l: Line, keys: &mut [u64], distances: &mut [f32], leaves: &mut [u64]) -> bool {
-    let at = l.a as usize % 0x1_0000_0000;
+fn put(
+    l: Line,
+    keys: &mut [u64],
+    distances: &mut [f32],
+    firsts: &mut [u16],
+    leaves: &mut [u64],
+) -> bool {
+    let at = l.a as usize % 0x1_0000;
     if at >= keys.len() {
         return false;
     }
     if at >= distances.len() {
+        return false;
+    }
+    if at >= firsts.len() {
         return false;
     }
     if at >= leaves.len() {
@@ -35,6 +44,7 @@ fn put(l: Line, keys: &mut [u64], distances: &mut [f32], leaves: &mut [u64]) -> 
     }
     keys[at] = l.b;
     distances[at] = sample::float(l.a >> 32);
+    firsts[at] = ((l.a >> 16) % 0x1_0000) as u16;
     leaves[at] = l.c;
     true
 }
@@ -81,32 +91,35 @@ fn list(
     l: Line,
     keys: &[u64],
     distances: &[f32],
+    firsts: &[u16],
     leaves: &[u64],
     vertices: &mut [u64],
     levels: &mut [u8],
 ) -> bool {
     let a = sample::length_at(l.a, 0, keys.len());
     let b = sample::length_at(l.a, 1, distances.len());
-    let c = sample::length_at(l.a, 2, leaves.len());
-    let d = sample::length_at(l.c, 0, vertices.len());
-    let e = sample::length_at(l.c, 1, levels.len());
+    let c = sample::length_at(l.a, 2, firsts.len());
+    let d = sample::length_at(l.a, 3, leaves.len());
+    let e = sample::length_at(l.c, 0, vertices.len());
+    let f = sample::length_at(l.c, 1, levels.len());
     let answer = vertices::list(
         &keys[..a],
         &distances[..b],
-        &leaves[..c],
+        &firsts[..c],
+        &leaves[..d],
         l.b as usize,
-        &mut vertices[..d],
-        &mut levels[..e],
+        &mut vertices[..e],
+        &mut levels[..f],
     );
     same_count(answer, l)
 }
 
-// One corner of a dual cell, which A says above the lengths.
-fn dual_cell(l: Line, keys: &[u64], distances: &[f32], leaves: &[u64]) -> bool {
-    let cell = dual::dual_cell(keys, distances, leaves, l.b, l.low_c);
+// One corner of a dual cell, which C says above the level.
+fn dual_cell(l: Line, keys: &[u64], distances: &[f32], firsts: &[u16], leaves: &[u64]) -> bool {
+    let cell = dual::dual_cell(keys, distances, firsts, leaves, l.b, l.low_c);
     let nodes = cell.keys;
     let theirs = cell.distances;
-    let corner = sample::length_at(l.a, 3, 7);
+    let corner = sample::length_at(l.c, 2, 7);
     let answer = cell.tried;
     match answer {
         Tried::Keys(n) => same_found(nodes[corner], theirs[corner], n, l),
@@ -114,29 +127,30 @@ fn dual_cell(l: Line, keys: &[u64], distances: &[f32], leaves: &[u64]) -> bool {
     }
 }
 
-fn is_sound(l: Line, keys: &[u64], distances: &[f32], leaves: &[u64]) -> bool {
-    if tree::sound(keys, distances, leaves) {
+fn is_sound(l: Line, keys: &[u64], distances: &[f32], firsts: &[u16], leaves: &[u64]) -> bool {
+    if tree::sound(keys, distances, firsts, leaves) {
         return l.x == 1;
     }
     l.x == 0
 }
 
 // A line that reads what is lent and changes no table.
-fn read_lent(l: Line, keys: &[u64], distances: &[f32], leaves: &[u64]) -> bool {
+fn read_lent(l: Line, keys: &[u64], distances: &[f32], firsts: &[u16], leaves: &[u64]) -> bool {
     let op = l.op;
     match op {
-        17 => is_sound(l, keys, distances, leaves),
-        18 => same_lookup(tree::look_up(keys, distances, leaves, l.b), l),
-        21 => dual_cell(l, keys, distances, leaves),
+        17 => is_sound(l, keys, distances, firsts, leaves),
+        18 => same_lookup(tree::look_up(keys, distances, firsts, leaves, l.b), l),
+        21 => dual_cell(l, keys, distances, firsts, leaves),
         _ => false,
     }
 }
 
-fn lend(l: Line, keys: &[u64], distances: &[f32], leaves: &[u64]) -> bool {
+fn lend(l: Line, keys: &[u64], distances: &[f32], firsts: &[u16], leaves: &[u64]) -> bool {
     let a = sample::length_at(l.a, 0, keys.len());
     let b = sample::length_at(l.a, 1, distances.len());
-    let c = sample::length_at(l.a, 2, leaves.len());
-    read_lent(l, &keys[..a], &distances[..b], &leaves[..c])
+    let c = sample::length_at(l.a, 2, firsts.len());
+    let d = sample::length_at(l.a, 3, leaves.len());
+    read_lent(l, &keys[..a], &distances[..b], &firsts[..c], &leaves[..d])
 }
 
 fn same_level(level: u8, y: u64) -> bool {
@@ -162,6 +176,7 @@ fn reads(
     l: Line,
     keys: &[u64],
     distances: &[f32],
+    firsts: &[u16],
     leaves: &[u64],
     vertices: &[u64],
     levels: &[u8],
@@ -170,13 +185,14 @@ fn reads(
     match op {
         20 => same_listed(l, vertices, levels),
         22 => same_slab(dual::slab(l.a, l.low_b, l.low_c), l),
-        _ => lend(l, keys, distances, leaves),
+        _ => lend(l, keys, distances, firsts, leaves),
     }
 }
 
 fn replay() -> Tally {
     let mut keys = [0u64; 1024];
     let mut distances = [0.0f32; 1024];
+    let mut firsts = [0u16; 1024];
     let mut leaves = [0u64; 1024];
     let mut vertices = [0u64; 1024];
     let mut levels = [0u8; 1024];
@@ -189,7 +205,7 @@ fn replay() -> Tally {
             return tally;
         }
         if l.op == PUT {
-            let same = put(l, &mut keys, &mut distances, &mut leaves);
+            let same = put(l, &mut keys, &mut distances, &mut firsts, &mut leaves);
             let more = sample::counted(tally, l.op, same);
             tally = more;
             left -= 1;
@@ -197,12 +213,20 @@ fn replay() -> Tally {
             if l.op == LIST {
                 vertices = [0u64; 1024];
                 levels = [0u8; 1024];
-                let same = list(l, &keys, &distances, &leaves, &mut vertices, &mut levels);
+                let same = list(
+                    l,
+                    &keys,
+                    &distances,
+                    &firsts,
+                    &leaves,
+                    &mut vertices,
+                    &mut levels,
+                );
                 let more = sample::counted(tally, l.op, same);
                 tally = more;
                 left -= 1;
             } else {
-                let same = reads(l, &keys, &distances, &leaves, &vertices, &levels);
+                let same = reads(l, &keys, &distances, &firsts, &leaves, &vertices, &levels);
                 let more = sample::counted(tally, l.op, same);
                 tally = more;
                 left -= 1;

@@ -19,26 +19,32 @@ length-at-requires-4 c κs = search needs
 length-at-requires-5 : tie.Need-length-at-requires-5
 length-at-requires-5 c κs = search needs
 
+length-at-requires-6 : tie.Need-length-at-requires-6
+length-at-requires-6 c κs = search needs
+
 slice-aggregate-list : tie.Need-slice-aggregate-list
-slice-aggregate-list c = lent _ _ _ (c .before .before .before .before .before .length-at .ensures)
+slice-aggregate-list c = lent _ _ _ (c .before .before .before .before .before .before .length-at .ensures)
 
 slice-aggregate-list-2 : tie.Need-slice-aggregate-list-2
-slice-aggregate-list-2 c = lent _ _ _ (c .before .before .before .before .before .length-at2 .ensures)
+slice-aggregate-list-2 c = lent _ _ _ (c .before .before .before .before .before .before .length-at2 .ensures)
 
 slice-aggregate-list-3 : tie.Need-slice-aggregate-list-3
-slice-aggregate-list-3 c = lent _ _ _ (c .before .before .before .before .before .length-at3 .ensures)
+slice-aggregate-list-3 c = lent _ _ _ (c .before .before .before .before .before .before .length-at3 .ensures)
+
+slice-aggregate-list-4 : tie.Need-slice-aggregate-list-4
+slice-aggregate-list-4 c = lent _ _ _ (c .before .before .before .before .before .before .length-at4 .ensures)
 
 slice-relend-prefix-list : tie.Need-slice-relend-prefix-list
 slice-relend-prefix-list c = search needs
 
-slice-aggregate-list-4 : tie.Need-slice-aggregate-list-4
-slice-aggregate-list-4 c = lent _ _ _ (c .before .before .before .before .before .length-at4 .ensures)
+slice-aggregate-list-5 : tie.Need-slice-aggregate-list-5
+slice-aggregate-list-5 c = lent _ _ _ (c .before .before .before .before .before .before .length-at5 .ensures)
 
 slice-relend-prefix-list-2 : tie.Need-slice-relend-prefix-list-2
 slice-relend-prefix-list-2 c = search needs
 
-slice-aggregate-list-5 : tie.Need-slice-aggregate-list-5
-slice-aggregate-list-5 c = lent _ _ _ (c .before .before .before .before .before .length-at5 .ensures)
+slice-aggregate-list-6 : tie.Need-slice-aggregate-list-6
+slice-aggregate-list-6 c = lent _ _ _ (c .before .before .before .before .before .before .length-at6 .ensures)
 
 list-requires : tie.Need-list-requires
 list-requires c κs = search needs
@@ -64,13 +70,15 @@ list-spec =
     length-at-requires-3
     length-at-requires-4
     length-at-requires-5
+    length-at-requires-6
     slice-aggregate-list
     slice-aggregate-list-2
     slice-aggregate-list-3
-    slice-relend-prefix-list
     slice-aggregate-list-4
-    slice-relend-prefix-list-2
+    slice-relend-prefix-list
     slice-aggregate-list-5
+    slice-relend-prefix-list-2
+    slice-aggregate-list-6
     list-requires
     same-count-requires
     same-length

@@ -10,14 +10,14 @@ abbrev Whole : {A : Type 0} → List A → Type 0
 Whole xs = length xs ≡ 1024
 
 abbrev Inv-loop : tie.InvT-loop
-Inv-loop keys₀ distances₀ leaves₀ vertices₀ levels₀ tally₀ left₀ keys distances leaves vertices levels tally left =
-    Whole keys × Whole distances × Whole leaves × Whole vertices × Whole levels
+Inv-loop keys₀ distances₀ firsts₀ leaves₀ vertices₀ levels₀ tally₀ left₀ keys distances firsts leaves vertices levels tally left =
+    Whole keys × Whole distances × Whole firsts × Whole leaves × Whole vertices × Whole levels
 
 abbrev μ-loop : tie.MeasureT-loop
-μ-loop keys₀ distances₀ leaves₀ vertices₀ levels₀ tally₀ left₀ keys distances leaves vertices levels tally left = left
+μ-loop keys₀ distances₀ firsts₀ leaves₀ vertices₀ levels₀ tally₀ left₀ keys distances firsts leaves vertices levels tally left = left
 
 loop-holds : tie.Need-loop-holds Inv-loop μ-loop
-loop-holds c = (refl, refl, refl, refl, refl)
+loop-holds c = (refl, refl, refl, refl, refl, refl)
 
 read-line-requires : tie.Need-read-line-requires Inv-loop μ-loop
 read-line-requires c κs = search needs
@@ -33,6 +33,9 @@ slice-aggregate-put-2 c = search needs
 
 slice-aggregate-put-3 : tie.Need-slice-aggregate-put-3 Inv-loop μ-loop
 slice-aggregate-put-3 c = search needs
+
+slice-aggregate-put-4 : tie.Need-slice-aggregate-put-4 Inv-loop μ-loop
+slice-aggregate-put-4 c = search needs
 
 put-requires : tie.Need-put-requires Inv-loop μ-loop
 put-requires c κs = search needs
@@ -64,6 +67,9 @@ slice-aggregate-list-4 c = search needs
 slice-aggregate-list-5 : tie.Need-slice-aggregate-list-5 Inv-loop μ-loop
 slice-aggregate-list-5 c = search needs
 
+slice-aggregate-list-6 : tie.Need-slice-aggregate-list-6 Inv-loop μ-loop
+slice-aggregate-list-6 c = search needs
+
 list-requires : tie.Need-list-requires Inv-loop μ-loop
 list-requires c κs = search needs
 
@@ -93,6 +99,9 @@ slice-aggregate-reads-4 c = search needs
 
 slice-aggregate-reads-5 : tie.Need-slice-aggregate-reads-5 Inv-loop μ-loop
 slice-aggregate-reads-5 c = search needs
+
+slice-aggregate-reads-6 : tie.Need-slice-aggregate-reads-6 Inv-loop μ-loop
+slice-aggregate-reads-6 c = search needs
 
 reads-requires : tie.Need-reads-requires Inv-loop μ-loop
 reads-requires c κs = search needs
@@ -124,6 +133,7 @@ replay-spec =
     slice-aggregate-put
     slice-aggregate-put-2
     slice-aggregate-put-3
+    slice-aggregate-put-4
     put-requires
     counted-requires
     sub-left
@@ -134,6 +144,7 @@ replay-spec =
     slice-aggregate-list-3
     slice-aggregate-list-4
     slice-aggregate-list-5
+    slice-aggregate-list-6
     list-requires
     counted-requires-2
     sub-left-2
@@ -144,6 +155,7 @@ replay-spec =
     slice-aggregate-reads-3
     slice-aggregate-reads-4
     slice-aggregate-reads-5
+    slice-aggregate-reads-6
     reads-requires
     counted-requires-3
     sub-left-3
