@@ -24,7 +24,7 @@ use Rattle.geometry.proofs.Place.{corner-grid, inner-level}
 use Rattle.geometry.proofs.Middles.{middles, length-middles, corner-up}
 use Rattle.geometry.proofs.Vertex.{point-down}
 use Rattle.geometry.proofs.Offsets.{Within, near-cell, in-cube}
-use Rattle.vertices.specs.Walk.{splitAt, entry, Spot, inTurn, lowCorner, divided, meets, ending, walked, sum, visited, spotsOf}
+use Rattle.vertices.specs.Walk.{splitAt, entry, Spot, inTurn, lowCorner, divided, meets, ending, walked, sum, visited, spotsOf, mostOf}
 use Rattle.vertices.proofs.Entries.{entry-in, entry-out, split-deep, split-over}
 use Rattle.vertices.proofs.Blocks.{some-is, walked-end, walked-on, walked-stop, ending-one, ending-none}
 use Rattle.vertices.proofs.Spot.{Meets, corner-next}
@@ -219,5 +219,5 @@ module _ (ks : Nodes) where
   steps-linear = omega (arith, all .cells, above-most 8 mark (8 * blocks) (32 * lowCorner 0 1 + 0))
 
   pub vertices-linear : length (spotsOf ks) ≤ mostOf (length (ks .keys))
-  unfolding spotsOf
+  unfolding spotsOf mostOf
   vertices-linear = omega (arith, all .spots, above-most 19 middle (19 * blocks) (lowCorner 0 1))

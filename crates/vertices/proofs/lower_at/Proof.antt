@@ -26,8 +26,14 @@ lower-place-requires c κs = (c .before .before .before .before .pre .0, omega a
 marked-requires : tie.Need-marked-requires Inv-loop μ-loop
 marked-requires c κs = search needs
 
+cast-first-at : tie.Need-cast-first-at Inv-loop μ-loop
+cast-first-at c = search needs
+
 first-at-requires : tie.Need-first-at-requires Inv-loop μ-loop
 first-at-requires c κs = search needs
+
+cast-out : tie.Need-cast-out Inv-loop μ-loop
+cast-out c = omega (arith, c .first-at .ensures, c .before .before .before .before .before .before .before .before .pre .2 (c .before .before .before .lower-place .result))
 
 mul-out : tie.Need-mul-out Inv-loop μ-loop
 mul-out c = search needs
@@ -71,7 +77,9 @@ lower-at-spec =
     loop-holds
     lower-place-requires
     marked-requires
+    cast-first-at
     first-at-requires
+    cast-out
     mul-out
     array-write-out
     add-o

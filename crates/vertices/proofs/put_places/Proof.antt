@@ -22,6 +22,9 @@ loop-holds c = (omega arith, refl, written-none _ _ _)
 lower-place-requires : tie.Need-lower-place-requires Inv-loop μ-loop
 lower-place-requires c κs = (c .before .before .before .before .pre .0 .0, omega arith, c .before .before .before .before .pre .1)
 
+cast-places : tie.Need-cast-places Inv-loop μ-loop
+cast-places c = search needs
+
 mul-places : tie.Need-mul-places Inv-loop μ-loop
 mul-places c = record { fits = omega (arith, c .before .before .before .before .before .pre .0 .1) }
 
@@ -57,6 +60,7 @@ put-places-spec =
     μ-loop
     loop-holds
     lower-place-requires
+    cast-places
     mul-places
     add-places
     mul-places-2

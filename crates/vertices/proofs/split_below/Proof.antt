@@ -26,11 +26,14 @@ mul-split-children c = search needs
 shared-slice-read-split-children : tie.Need-shared-slice-read-split-children Inv-loop μ-loop
 shared-slice-read-split-children c = search needs
 
+cast-split-children : tie.Need-cast-split-children Inv-loop μ-loop
+cast-split-children c = record { fits = omega (arith, c .before .before .before .before .before .before .before .before .pre .1 .each (c .before .before .before .before .loop .o) (omega arith)) }
+
 lower-cell-requires : tie.Need-lower-cell-requires Inv-loop μ-loop
 lower-cell-requires c κs = search needs
 
 split-children-requires : tie.Need-split-children-requires Inv-loop μ-loop
-split-children-requires c κs = (c .before .before .before .before .before .before .before .before .before .pre .1 .each (c .before .before .before .before .before .loop .o) (omega arith), subst (λ (k : ℕ). k < 2 ^ 57) (sym (c .lower-cell .ensures)) (c .before .before .before .before .before .before .before .before .before .pre .0 (c .before .before .before .before .before .loop .o) (omega arith) (sym (c .before .before .before .marked .ensures) ∙ c .before .before .if1 .taken)))
+split-children-requires c κs = (omega (arith, c .before .before .before .before .before .before .before .before .before .pre .1 .each (c .before .before .before .before .before .loop .o) (omega arith)), subst (λ (k : ℕ). k < 2 ^ 57) (sym (c .lower-cell .ensures)) (c .before .before .before .before .before .before .before .before .before .pre .0 (c .before .before .before .before .before .loop .o) (omega arith) (sym (c .before .before .before .marked .ensures) ∙ c .before .before .if1 .taken)))
 
 mul-below : tie.Need-mul-below Inv-loop μ-loop
 mul-below c = search needs
@@ -72,6 +75,7 @@ split-below-spec =
     marked-requires
     mul-split-children
     shared-slice-read-split-children
+    cast-split-children
     lower-cell-requires
     split-children-requires
     mul-below
