@@ -13,7 +13,7 @@ use borrow.Author.Tests.{lt-ltb, le-ltb, ltb-true, eq-eqb, ne-eqb, eqb-true}
 use Rattle.morton.specs.Level.{if₀, Cell, level, parentOf}
 use Rattle.morton.proofs.Levels.{and-true, eight-pos}
 use Rattle.tree.specs.Tree.{Tree, StandsAt, In, Ascending, AllChildren, NoChild, FirstChild, Sound, Decides}
-use Rattle.tree.specs.Down.{Nodes, nodesOf, firstAt, leads, steps, reach, isSplit, over, placeOver}
+use Rattle.tree.specs.Down.{Nodes, nodesOf, firstAt, leads, steps, reach, isSplit, over, placeOver, levelOver}
 use Rattle.tree.proofs.Lists.{order, in-at, in-cast, in-stands, stands-in, ascending-place}
 use Rattle.tree.proofs.Pass.{said, denied, up≤, up-back, eighth}
 
@@ -81,6 +81,23 @@ module _ (n : Nodes) where
   pub place-stay : (l x : ℕ) → isSplit n l (x / 8) ≡ false → placeOver n (suc l) x ≡ placeOver n l (x / 8)
   unfolding placeOver
   place-stay l x e = ap (λ (r : Bool). if₀ r (reach n (suc l) x) (placeOver n l (x / 8))) e
+
+  pub level-down : (l x : ℕ) → isSplit n l (x / 8) ≡ true → levelOver n (suc l) x ≡ suc l
+  unfolding levelOver
+  level-down l x e = ap (λ (r : Bool). if₀ r (suc l) (levelOver n l (x / 8))) e
+
+  pub level-stay : (l x : ℕ) → isSplit n l (x / 8) ≡ false → levelOver n (suc l) x ≡ levelOver n l (x / 8)
+  unfolding levelOver
+  level-stay l x e = ap (λ (r : Bool). if₀ r (suc l) (levelOver n l (x / 8))) e
+
+  pub level-most : (l x : ℕ) → levelOver n l x ≤ l
+  unfolding levelOver
+  level-most zero x = omega arith
+  level-most (suc l) x = go (isSplit n l (x / 8)) (level-most l (x / 8))
+    where
+      go : (r : Bool) → levelOver n l (x / 8) ≤ l → if₀ r (suc l) (levelOver n l (x / 8)) ≤ suc l
+      go true h = omega arith
+      go false h = omega arith
 
   -- a split node is the node over itself
   pub over-split : (l x : ℕ) → isSplit n l x ≡ true → over n l x ≡ x

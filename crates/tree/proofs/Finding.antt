@@ -17,11 +17,11 @@ use Rattle.morton.proofs.Fields.{cell-up, div-step}
 use Rattle.tree.specs.declared.Lookup.{Lookup}
 use Rattle.tree.specs.declared.Lookup.the-variants.{Found, Nothing, Refused}
 use Rattle.tree.specs.Tree.{Tree, StandsAt, In, Sound}
-use Rattle.tree.specs.Down.{Nodes, nodesOf, firstAt, leads, steps, reach, isSplit, over, placeOver, NodeOver}
+use Rattle.tree.specs.Down.{Nodes, nodesOf, firstAt, leads, steps, reach, isSplit, over, placeOver, levelOver, NodeOver, NodeSays}
 use Rattle.tree.specs.Climb.{ancestor, NoneDeeper, Deepest, LookupSays, triedIn, distanceAt, downOf, trustingOf}
 use Rattle.tree.proofs.Lists.{order, getD-inside, in-at, in-cast, stands-in}
 use Rattle.tree.proofs.Pass.{said, denied, up≤, eighth}
-use Rattle.tree.proofs.Down.{split-below, reach-down, over-down, over-stay, place-down, place-stay, over-split, reached, parent-in}
+use Rattle.tree.proofs.Down.{split-below, reach-down, over-down, over-stay, place-down, place-stay, level-down, level-stay, level-most, over-split, reached, parent-in}
 
 -- what the way down reads of a tree
 abbrev pub nodes : Tree → Nodes
@@ -42,30 +42,25 @@ module _ (n : Nodes) where
       subst (λ (m : ℕ). isSplit n m x ≡ false) (sym (add-suc l j))
       (ap (λ (r : Bool). r && steps n (reach n (suc (l + j)) x) x) (split-stop l j (x / 8) (subst (λ (y : ℕ). isSplit n l y ≡ false) (div-step x 8 j) e)))
 
-  -- so the node over it is the node over all of them
-  over-stop : (l j x : ℕ) → isSplit n l (x / 8 ^ j) ≡ false → over n (l + j) x ≡ over n l (x / 8 ^ j)
-  over-stop l zero x e = ap₂ (over n) (add-zero l) (sym (div-one x))
-  over-stop l (suc j) x e =
-      let f : isSplit n l (x / 8 / 8 ^ j) ≡ false = subst (λ (y : ℕ). isSplit n l y ≡ false) (div-step x 8 j) e in
-      ap (λ (m : ℕ). over n m x) (add-suc l j) ∙ over-stay n (l + j) x (split-stop l j (x / 8) f) ∙ over-stop l j (x / 8) f ∙ ap (over n l) (sym (div-step x 8 j))
-
-  place-stop : (l j x : ℕ) → isSplit n l (x / 8 ^ j) ≡ false → placeOver n (l + j) x ≡ placeOver n l (x / 8 ^ j)
-  place-stop l zero x e = ap₂ (placeOver n) (add-zero l) (sym (div-one x))
-  place-stop l (suc j) x e =
-      let f : isSplit n l (x / 8 / 8 ^ j) ≡ false = subst (λ (y : ℕ). isSplit n l y ≡ false) (div-step x 8 j) e in
-      ap (λ (m : ℕ). placeOver n m x) (add-suc l j) ∙ place-stay n (l + j) x (split-stop l j (x / 8) f) ∙ place-stop l j (x / 8) f ∙ ap (placeOver n l) (sym (div-step x 8 j))
+  -- so what is asked of the node over it is the same for all of them
+  stop : (f : ℕ → ℕ → ℕ) → ((l x : ℕ) → isSplit n l (x / 8) ≡ false → f (suc l) x ≡ f l (x / 8)) → (l j x : ℕ) → isSplit n l (x / 8 ^ j) ≡ false → f (l + j) x ≡ f l (x / 8 ^ j)
+  stop f stay l zero x e = ap₂ f (add-zero l) (sym (div-one x))
+  stop f stay l (suc j) x e =
+      let s : isSplit n l (x / 8 / 8 ^ j) ≡ false = subst (λ (y : ℕ). isSplit n l y ≡ false) (div-step x 8 j) e in
+      ap (λ (m : ℕ). f m x) (add-suc l j) ∙ stay (l + j) x (split-stop l j (x / 8) s) ∙ stop f stay l j (x / 8) s ∙ ap (f l) (sym (div-step x 8 j))
 
   -- the way down to x of level L has come to level l, at a place
   pub record Going (L x l place : ℕ) : Type 0 where
     pub deep : l ≤ L
     pub here : place ≡ reach n l (x / 8 ^ (L - l))
     pub node : over n l (x / 8 ^ (L - l)) ≡ x / 8 ^ (L - l)
+    pub own : levelOver n l (x / 8 ^ (L - l)) ≡ l
     pub at : placeOver n l (x / 8 ^ (L - l)) ≡ place
     pub chain : (r : Bool) → steps n place (x / 8 ^ (L - l)) ≡ r → isSplit n l (x / 8 ^ (L - l)) ≡ r
 
   pub going-none : (L x : ℕ) → Going L x 0 0
-  unfolding reach over placeOver isSplit
-  going-none L x = record { deep = omega arith; here = refl; node = refl; at = refl; chain = λ r e. e }
+  unfolding reach over placeOver levelOver isSplit
+  going-none L x = record { deep = omega arith; here = refl; node = refl; own = refl; at = refl; chain = λ r e. e }
 
   -- the next cell on the way
   pub next-up : (L x l : ℕ) → l < L → x / 8 ^ (L - l - 1) / 8 ≡ x / 8 ^ (L - l)
@@ -105,6 +100,7 @@ module _ (n : Nodes) where
               deep = omega arith;
               here = at-reach;
               node = over-down n l (x / 8 ^ (L - suc l)) s;
+              own = level-down n l (x / 8 ^ (L - suc l)) s;
               at = place-down n l (x / 8 ^ (L - suc l)) s ∙ sym at-reach;
               chain = λ r t. split-below n l (x / 8 ^ (L - suc l)) s ∙ ap (λ (m : ℕ). steps n m (x / 8 ^ (L - suc l))) (sym at-reach) ∙ t;
             }
@@ -115,8 +111,9 @@ module _ (n : Nodes) where
         let t : isSplit n l (x / 8 ^ (L - l)) ≡ false = test false e in
         record {
           no-deeper = g .deep;
-          is = ap (λ (m : ℕ). over n m x) (sym s) ∙ over-stop l (L - l) x t ∙ g .node;
-          at = ap (λ (m : ℕ). placeOver n m x) (sym s) ∙ place-stop l (L - l) x t ∙ g .at;
+          is = ap (λ (m : ℕ). over n m x) (sym s) ∙ stop (over n) (over-stay n) l (L - l) x t ∙ g .node;
+          its-level = ap (λ (m : ℕ). levelOver n m x) (sym s) ∙ stop (levelOver n) (level-stay n) l (L - l) x t ∙ g .own;
+          at = ap (λ (m : ℕ). placeOver n m x) (sym s) ∙ stop (placeOver n) (place-stay n) l (L - l) x t ∙ g .at;
         }
 
   pub going-end : (L x l place : ℕ) → L ≤ l → Going L x l place → NodeOver n L x l place
@@ -127,8 +124,60 @@ module _ (n : Nodes) where
       record {
         no-deeper = g .deep;
         is = ap₂ (over n) (sym e) (sym y) ∙ g .node;
+        its-level = ap₂ (levelOver n) (sym e) (sym y) ∙ g .own;
         at = ap₂ (placeOver n) (sym e) (sym y) ∙ g .at;
       }
+
+-- of a level that a cell may have, it is the node over the cell
+pub says-over : (n : Nodes) (L x l place : ℕ) → L ≤ deepest → NodeSays n L x l place → NodeOver n L x l place
+says-over n L x l place h s = ⊎-elim (λ v. v .1) (λ z. absurd (omega (arith, z .0))) s
+
+pub says-deep : (n : Nodes) (L x l place : ℕ) → NodeSays n L x l place → l ≤ L
+says-deep n L x l place s = ⊎-elim (λ v. v .1 .no-deeper) (λ z. omega (arith, z .1)) s
+
+-- the node over a cell from that over the first of its eight cells: they stand in a row where their parent is split, and else have the same one
+module _ (n : Nodes) (L x l place : ℕ) (v : NodeOver n (suc L) (8 * (x / 8)) l place) where
+  same-parent : 8 * (x / 8) / 8 ≡ x / 8
+  same-parent = omega arith
+
+  first-split : (r : Bool) → isSplit n L (x / 8) ≡ r → isSplit n L (8 * (x / 8) / 8) ≡ r
+  first-split r e = ap (isSplit n L) same-parent ∙ e
+
+  pub in-row : l ≡ suc L → NodeOver n (suc L) x l (place + x % 8)
+  in-row h = go (isSplit n L (x / 8)) refl
+    where
+      go : (r : Bool) → isSplit n L (x / 8) ≡ r → NodeOver n (suc L) x l (place + x % 8)
+      go true e =
+          let f : isSplit n L (8 * (x / 8) / 8) ≡ true = first-split true e in
+          let z : suc L - l ≡ 0 = omega arith in
+          let row : place ≡ firstAt n (reach n L (x / 8)) + 8 * (x / 8) % 8 =
+          sym (v .at) ∙ place-down n L (8 * (x / 8)) f ∙ reach-down n L (8 * (x / 8)) ∙ ap (λ (m : ℕ). firstAt n (reach n L m) + 8 * (x / 8) % 8) same-parent in
+          record {
+            no-deeper = v .no-deeper;
+            is = over-down n L x e ∙ sym (ap (λ (m : ℕ). x / 8 ^ m) z ∙ div-one x);
+            its-level = level-down n L x e ∙ sym h;
+            at = place-down n L x e ∙ reach-down n L x ∙ omega (arith, row);
+          }
+      go false e =
+          absurd (omega (arith, v .its-level, level-stay n L (8 * (x / 8)) (first-split false e), level-most n L (8 * (x / 8) / 8)))
+
+  pub in-one : l ≤ L → NodeOver n (suc L) x l place
+  in-one h = go (isSplit n L (x / 8)) refl
+    where
+      go : (r : Bool) → isSplit n L (x / 8) ≡ r → NodeOver n (suc L) x l place
+      go true e = absurd (omega (arith, v .its-level, level-down n L (8 * (x / 8)) (first-split true e)))
+      go false e =
+          let f : isSplit n L (8 * (x / 8) / 8) ≡ false = first-split false e in
+          let s : suc L - l ≡ suc (L - l) = omega arith in
+          let up : 8 * (x / 8) / 8 ^ (suc L - l) ≡ x / 8 ^ (suc L - l) =
+          ap (λ (m : ℕ). 8 * (x / 8) / 8 ^ m) s ∙ div-step (8 * (x / 8)) 8 (L - l) ∙ ap (λ (m : ℕ). m / 8 ^ (L - l)) same-parent
+          ∙ sym (div-step x 8 (L - l)) ∙ ap (λ (m : ℕ). x / 8 ^ m) (sym s) in
+          record {
+            no-deeper = v .no-deeper;
+            is = over-stay n L x e ∙ ap (over n L) (sym same-parent) ∙ sym (over-stay n L (8 * (x / 8)) f) ∙ v .is ∙ up;
+            its-level = level-stay n L x e ∙ ap (levelOver n L) (sym same-parent) ∙ sym (level-stay n L (8 * (x / 8)) f) ∙ v .its-level;
+            at = place-stay n L x e ∙ ap (placeOver n L) (sym same-parent) ∙ sym (place-stay n L (8 * (x / 8)) f) ∙ v .at;
+          }
 
 -- ---- the answer, on any tables
 
@@ -181,9 +230,9 @@ module _ (n : Nodes) (ds : List Float) (k : ℕ) where
       go false = omega arith
 
 -- by the level and the place that the code has
-module _ (n : Nodes) (ds : List Float) (k L l place : ℕ) (c : isCell k ≡ true) (e : L ≡ level k) (v : NodeOver n L k l place) where
+module _ (n : Nodes) (ds : List Float) (k L l place : ℕ) (c : isCell k ≡ true) (e : L ≡ level k) (v : NodeSays n L k l place) where
   own : NodeOver n (level k) k l place
-  own = subst (λ (m : ℕ). NodeOver n m k l place) e v
+  own = says-over n (level k) k l place (level-le k) (subst (λ (m : ℕ). NodeSays n m k l place) e v)
 
   pub nothing-at : l ≡ 0 → Nothing L ≡ trustingOf n ds k
   nothing-at z = ap Nothing e ∙ down-nothing n ds k l place (is-cell k c) own z ∙ trusting-down n ds k c

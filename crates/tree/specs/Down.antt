@@ -1,11 +1,12 @@
 -- The node over a cell, found by going down from the root, on any tables at all: no tree need be sound. Assumes nothing.
-use Prim.Native.Nat.{ℕ, zero, suc, _+_, _-_, _*_, _/_, _%_, _^_, _≤_}
+use Prim.Native.Nat.{ℕ, zero, suc, _+_, _-_, _*_, _/_, _%_, _^_, _≤_, _<_}
 use mathlib.Core.Path.{_≡_}
 use mathlib.Core.Bool.{Bool, _&&_}
+use mathlib.Core.Logic.{_⊎_}
 use mathlib.Core.List.{List}
 use lib.Dec.{eqb, ltb}
 use lib.ListN.{length, getD}
-use Rattle.morton.specs.Level.{if₀}
+use Rattle.morton.specs.Level.{if₀, deepest}
 
 -- The tables that the way down reads: node keys, and for each node the place of its first child.
 pub record Nodes : Type 0 where
@@ -48,8 +49,18 @@ unfoldable pub placeOver : Nodes → ℕ → ℕ → ℕ
 placeOver n zero x = 0
 placeOver n (suc l) x = if₀ (isSplit n l (x / 8)) (reach n (suc l) x) (placeOver n l (x / 8))
 
+-- And its level.
+unfoldable pub levelOver : Nodes → ℕ → ℕ → ℕ
+levelOver n zero x = 0
+levelOver n (suc l) x = if₀ (isSplit n l (x / 8)) (suc l) (levelOver n l (x / 8))
+
 -- The node over a cell of level L, by its level and its place.
 pub record NodeOver (n : Nodes) (L x l place : ℕ) : Type 0 where
   pub no-deeper : l ≤ L
   pub is : over n L x ≡ x / 8 ^ (L - l)
+  pub its-level : levelOver n L x ≡ l
   pub at : placeOver n L x ≡ place
+
+-- What going down answers. No cell has a level above 21: for one it stays at the root.
+abbrev pub NodeSays : Nodes → ℕ → ℕ → ℕ → ℕ → Type 0
+NodeSays n L x l place = ((L ≤ deepest) × NodeOver n L x l place) ⊎ ((deepest < L) × (l ≡ 0) × (place ≡ 0))

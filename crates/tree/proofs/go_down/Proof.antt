@@ -1,7 +1,8 @@
 -- `go_down` meets its contract: a turn is a step down. Assumes nothing.
 use Prim.Native.Nat.{_-_, _*_, _^_}
 use native.Mathlib.Nat.{div-le-self}
-use mathlib.Core.Path.{sym, _∙_}
+use mathlib.Core.Path.{refl, sym, _∙_}
+use mathlib.Core.Logic.{inl, inr}
 use native.Mathlib.Omega.{arith}
 use borrow.Author.Needs.{needs}
 use borrow.Author.Tests.{not-true, not-false}
@@ -17,6 +18,9 @@ Inv-loop keys firsts level key place₀ l₀ place l = Going (nodesOf keys first
 
 abbrev μ-loop : tie.MeasureT-loop
 μ-loop keys firsts level key place₀ l₀ place l = level - l
+
+returns : tie.Need-returns Inv-loop μ-loop
+returns c = inr (omega arith, refl, refl)
 
 loop-holds : tie.Need-loop-holds Inv-loop μ-loop
 loop-holds c = going-none _ _ _
@@ -40,16 +44,16 @@ first-at-requires : tie.Need-first-at-requires Inv-loop μ-loop
 first-at-requires c κs = search needs
 
 mul-leads : tie.Need-mul-leads Inv-loop μ-loop
-mul-leads c = record { fits = omega (arith, div-le-self (c .before .before .before .before .before .args .key) (2 ^ (3 * (c .before .before .before .before .before .args .level - c .before .before .loop .l - 1)))) }
+mul-leads c = record { fits = omega (arith, div-le-self (c .before .before .before .before .before .before .args .key) (2 ^ (3 * (c .before .before .before .before .before .before .args .level - c .before .before .loop .l - 1)))) }
 
 leads-requires : tie.Need-leads-requires Inv-loop μ-loop
 leads-requires c κs = search needs
 
-returns : tie.Need-returns Inv-loop μ-loop
-returns c = going-stop _ _ _ _ _ (c .before .before .before .loop-test .taken) (c .before .before .before .before .loop .inv) _ _ (shifted _ _) (c .before .before .first-at .ensures) (sym (c .before .leads .ensures) ∙ not-true _ (c .if1 .taken))
+returns-2 : tie.Need-returns-2 Inv-loop μ-loop
+returns-2 c = inl (omega arith, going-stop _ _ _ _ _ (c .before .before .before .loop-test .taken) (c .before .before .before .before .loop .inv) _ _ (shifted _ _) (c .before .before .first-at .ensures) (sym (c .before .leads .ensures) ∙ not-true _ (c .if2 .taken)))
 
 add-place : tie.Need-add-place Inv-loop μ-loop
-add-place c = record { fits = omega (arith, leads-in _ _ _ (sym (c .before .leads .ensures) ∙ not-false _ (c .if1 .left)) .1) }
+add-place c = record { fits = omega (arith, leads-in _ _ _ (sym (c .before .leads .ensures) ∙ not-false _ (c .if2 .left)) .1) }
 
 add-l : tie.Need-add-l Inv-loop μ-loop
 add-l c = search needs
@@ -58,10 +62,10 @@ loop-less : tie.Need-loop-less Inv-loop μ-loop
 loop-less c = search needs
 
 loop-again : tie.Need-loop-again Inv-loop μ-loop
-loop-again c = going-more _ _ _ _ _ (c .before .before .before .loop-test .taken) (c .before .before .before .before .loop .inv) _ _ (shifted _ _) (c .before .before .first-at .ensures) (sym (c .before .leads .ensures) ∙ not-false _ (c .if1 .left))
+loop-again c = going-more _ _ _ _ _ (c .before .before .before .loop-test .taken) (c .before .before .before .before .loop .inv) _ _ (shifted _ _) (c .before .before .first-at .ensures) (sym (c .before .leads .ensures) ∙ not-false _ (c .if2 .left))
 
-returns-2 : tie.Need-returns-2 Inv-loop μ-loop
-returns-2 c = going-end _ _ _ _ _ (omega arith) (c .before .loop .inv)
+returns-3 : tie.Need-returns-3 Inv-loop μ-loop
+returns-3 c = inl (omega arith, going-end _ _ _ _ _ (omega arith) (c .before .loop .inv))
 
 pub go-down-spec : {M : Type 1} → statement M
 go-down-spec =
@@ -69,6 +73,7 @@ go-down-spec =
     (tie.spec
     Inv-loop
     μ-loop
+    returns
     loop-holds
     sub-child
     sub-child-2
@@ -78,9 +83,9 @@ go-down-spec =
     first-at-requires
     mul-leads
     leads-requires
-    returns
+    returns-2
     add-place
     add-l
     loop-less
     loop-again
-    returns-2)
+    returns-3)
