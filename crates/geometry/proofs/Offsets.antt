@@ -45,9 +45,27 @@ flip-lt q o hq ho = xor-lt 3 q o hq ho
 bits-join : (w : ℕ) → w < 8 → bit 0 w + 2 * bit 1 w + 4 * bit 2 w ≡ w
 bits-join w h = omega arith
 
+bits-same : (v w : ℕ) → v < 8 → w < 8 → ((a : ℕ) → a < 3 → bit a v ≡ bit a w) → v ≡ w
+bits-same v w h g e =
+    sym (bits-join v h)
+    ∙ ap₂ _+_ (ap₂ _+_ (e 0 (omega arith)) (ap (λ (n : ℕ). 2 * n) (e 1 (omega arith)))) (ap (λ (n : ℕ). 4 * n) (e 2 (omega arith)))
+    ∙ bits-join w g
+
 -- an offset without bits
 pub no-bits : (o : ℕ) → o < 8 → ((a : ℕ) → a < 3 → bit a o ≡ 0) → o ≡ 0
 no-bits o h z = omega (arith, bits-join o h, z 0 (omega arith), z 1 (omega arith), z 2 (omega arith))
+
+-- what is kept shares no bit with q, and is kept again
+module _ (o q : ℕ) (ho : o < 8) (hq : q < 8) where
+  pub kept-none : bitAnd (bitAnd o (7 - q)) q ≡ 0
+  kept-none =
+      no-bits (bitAnd (bitAnd o (7 - q)) q) (omega (arith, kept-lt o q ho, and-le-l (bitAnd o (7 - q)) q))
+      (λ a l. omega (arith, and-bit a (bitAnd o (7 - q)) q, kept-bit a o q l hq, bit-le a o, bit-le a q))
+
+  pub kept-again : bitAnd (bitAnd o (7 - q)) (7 - q) ≡ bitAnd o (7 - q)
+  kept-again =
+      bits-same (bitAnd (bitAnd o (7 - q)) (7 - q)) (bitAnd o (7 - q)) (kept-lt (bitAnd o (7 - q)) q (kept-lt o q ho)) (kept-lt o q ho)
+      (λ a l. omega (arith, kept-bit a (bitAnd o (7 - q)) q l hq, kept-bit a o q l hq))
 
 -- ---- cells
 
