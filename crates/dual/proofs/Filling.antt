@@ -10,7 +10,6 @@ use lib.Arith.{lt-of-le-ne}
 use lib.Ieee.{Float, nan}
 use lib.ListN.{length, getD, set, length-set}
 use lib.Seq.{getD-set-same, getD-set-other}
-use Rattle.morton.specs.Field.{sub}
 use Rattle.morton.specs.Level.{deepest, Cell, level}
 use Rattle.morton.specs.Vertex.{isInner, sideOf}
 use Rattle.morton.proofs.Levels.{cell-level, cell-is}
@@ -20,9 +19,9 @@ use Rattle.tree.specs.declared.Lookup.the-variants as lookup
 use Rattle.tree.specs.declared.Lookup.the-variants.{Found, Nothing}
 use Rattle.tree.specs.Tree.{Tree, Sound}
 use Rattle.tree.specs.Down.{Nodes}
-use Rattle.tree.specs.Climb.{Deepest, LookupSays, trustingOf, triedIn}
-use Rattle.tree.proofs.Finding.{nodes, trusting-most, trusting-lookup, always-found}
-use Rattle.geometry.proofs.Place.{side, side-cell, side-on-grid}
+use Rattle.tree.specs.Climb.{Deepest, LookupSays, triedIn}
+use Rattle.tree.proofs.Finding.{nodes, trusting-lookup, always-found}
+use Rattle.geometry.proofs.Place.{side-cell, side-on-grid}
 use Rattle.geometry.proofs.Vertex.{inner-strict, inner-grid}
 use Rattle.dual.specs.declared.Tried.{Tried}
 use Rattle.dual.specs.declared.Tried.the-variants.{Keys, Refused}
@@ -65,10 +64,6 @@ module _ (ns : Nodes) (ds : List Float) (q : ℕ) where
         count = let s : n + 1 ≡ suc n = omega arith in rw s (omega (arith, f .count, e .its-tried));
       }
 
-  -- the entry that the calls make up
-  pub entry-at : (n side : ℕ) (answer : Lookup) (k : ℕ) (d : Float) (m : ℕ) → side ≡ sub q n → answer ≡ trustingOf ns ds side → EntrySays answer k d m → EntrySays (lookupAt ns ds q n) k d m
-  entry-at n side answer k d m e f s = subst (λ (r : Lookup). EntrySays r k d m) (f ∙ ap (trustingOf ns ds) e) s
-
   pub filled-all : (n : ℕ) (keys : List ℕ) (distances : List Float) (tried : ℕ) → 8 ≤ n → n ≤ 8 → Filled ns ds q n keys distances tried → Around ns ds q keys distances tried
   filled-all n keys distances tried h l f =
       let e : n ≡ 8 = omega arith in
@@ -79,16 +74,6 @@ module _ (ns : Nodes) (ds : List Float) (q : ℕ) where
         distance = λ i g. f .distance i (omega arith);
         count = f .count ∙ ap (sum (λ i. triedIn (lookupAt ns ds q i))) e;
       }
-
-  -- the sum stays small
-  tried-few : (n : ℕ) → sum (λ i. triedIn (lookupAt ns ds q i)) n ≤ deepest * n
-  unfolding sum
-  tried-few zero = omega arith
-  tried-few (suc n) = omega (arith, tried-few n, trusting-most ns ds (sub q n))
-
-  pub filled-room : (n : ℕ) (keys : List ℕ) (distances : List Float) (tried k : ℕ) (d : Float) (m : ℕ)
-      → n < 8 → Filled ns ds q n keys distances tried → EntrySays (lookupAt ns ds q n) k d m → tried + m < 2 ^ 32
-  filled-room n keys distances tried k d m h f e = omega (arith, tried-few n, f .count, e .its-tried, trusting-most ns ds (sub q n))
 
 -- ---- the dual cell
 

@@ -1,4 +1,5 @@
 -- The laws behind `dual`.
+pub mod Sharing
 pub mod Filling
 pub mod Slabs
 pub mod One

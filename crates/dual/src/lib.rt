@@ -1,12 +1,16 @@
 // The dual cells of a finished tree's vertices, and their slabs. From the search for eight nodes in `extract_surface`, in
 // src/linear_hashed_marching_cubes.rs of isosurface 0.0.4.
 use morton::Key;
-use tree::Lookup;
 ghost use mathlib.Core.Path.{_≡_};
+ghost use mathlib.Core.Bool.{true};
+ghost use Prim.Native.Nat.{_^_, _≤_};
+ghost use Rattle.morton.specs.Field.{sub};
+ghost use Rattle.morton.specs.Level.{deepest, Cell};
+ghost use Rattle.morton.specs.Vertex.{isInside};
 ghost use Rattle.tree.specs.Tree.{treeOf};
 ghost use Rattle.tree.specs.Down.{nodesOf};
 ghost use Rattle.dual.specs.Slab.{slabAnswer};
-ghost use Rattle.dual.specs.Dual.{DualSays, EntrySays, RefusedSays, AroundSays, TrustingSays};
+ghost use Rattle.dual.specs.Dual.{DualSays, WaysSay, EntryFor, RefusedSays, AroundSays, TrustingSays};
 
 // How many keys were tried, or the number of the refusal.
 pub enum Tried {
@@ -34,44 +38,82 @@ struct Entry {
     tried: u32,
 }
 
-// What a lookup gives for an entry: 0 and 0 where it found nothing.
-fn entry_of(answer: Lookup) -> Entry
-    ensures { λ r. ⌜ EntrySays answer (r .key) (r .distance) (r .tried) ⌝ }
+// The cell on side i of a vertex that is `middle` at its level.
+fn side(middle: u64, i: usize) -> u64
+    ensures { λ r. ⌜ r ≡ sub middle i ⌝ }
 {
-    match answer {
-        Lookup::Found {
-            key,
-            distance,
-            tried,
-        } => Entry {
-            key: key,
-            distance: distance,
-            tried: tried,
-        },
-        Lookup::Nothing { tried } => Entry {
+    let from = Key { code: middle };
+    let key = from.sub(Key { code: i as u64 });
+    key.code
+}
+
+// The ways down to the sides of a vertex. Sides that are children of one parent share a way: it leads to the node over the parent's first child, and is kept
+// at the one side of them that is lower on no axis on which the vertex is odd.
+struct Ways {
+    levels: [u32; 8],
+    places: [usize; 8],
+}
+
+fn ways_down(keys: &[u64], firsts: &[u16], middle: u64, level: u32) -> Ways
+    ensures { λ r. ⌜ WaysSay (nodesOf (now (keys .entry)) (now (firsts .entry))) level middle (r .levels) (r .places) ⌝ }
+{
+    let odd = (middle % 8) as usize;
+    let mut levels = [0u32; 8];
+    let mut places = [0usize; 8];
+    let mut j: usize = 0;
+    while j < 8 {
+        if j & odd == 0 {
+            let node = tree::go_down(keys, firsts, level, 8 * (side(middle, j) / 8));
+            levels[j] = node.level;
+            places[j] = node.place;
+            j += 1;
+        } else {
+            j += 1;
+        }
+    }
+    Ways { levels, places }
+}
+
+// The entry for a side, from the node over its parent's first child: beside that, if it is the child itself, else the same node. 0 and 0 where that is the root.
+fn entry_for(distances: &[f32], side: u64, level: u32, at: u32, place: usize) -> Entry
+    requires { ⌜ (1 ≤ level) × (level ≤ 20) × (at ≤ level) × (place ≤ 2 ^ 62) × Cell level side ⌝ }
+    ensures { λ r. ⌜ EntryFor (now (distances .entry)) level side at place (r .key) (r .distance) (r .tried) × (r .tried ≤ deepest) ⌝ }
+{
+    if at == 0 {
+        return Entry {
             key: 0,
             distance: 0.0,
-            tried: tried,
-        },
-        Lookup::Refused(_) => Entry {
-            key: 0,
-            distance: 0.0,
-            tried: 0,
-        },
+            tried: level,
+        };
+    }
+    if at == level {
+        return Entry {
+            key: side,
+            distance: tree::distance_at(distances, place + (side % 8) as usize),
+            tried: 1,
+        };
+    }
+    Entry {
+        key: side >> (3 * (level - at)),
+        distance: tree::distance_at(distances, place),
+        tried: level - at + 1,
     }
 }
 
 // The entries on the eight sides of a vertex that is `middle` at its level, each written anew.
-fn around(keys: &[u64], distances: &[f32], firsts: &[u16], middle: u64) -> Dual
+fn around(keys: &[u64], distances: &[f32], firsts: &[u16], middle: u64, level: u32) -> Dual
+    requires { ⌜ (1 ≤ level) × (level ≤ 20) × (isInside level middle ≡ true) ⌝ }
     ensures { λ r. ⌜ AroundSays (nodesOf (now (keys .entry)) (now (firsts .entry))) (now (distances .entry)) middle (r .keys) (r .distances) (r .tried) ⌝ }
 {
+    let w = ways_down(keys, firsts, middle, level);
+    let even = 7 - (middle % 8) as usize;
     let mut found = [0u64; 8];
     let mut theirs = [0.0f32; 8];
     let mut tried: u32 = 0;
     let mut i: usize = 0;
     while i < 8 {
-        let side = Key { code: middle }.sub(Key { code: i as u64 });
-        let e = entry_of(tree::look_up_trusting(keys, distances, firsts, side.code));
+        let j = i & even;
+        let e = entry_for(distances, side(middle, i), level, w.levels[j], w.places[j]);
         found[i] = e.key;
         theirs[i] = e.distance;
         tried += e.tried;
@@ -113,7 +155,7 @@ pub fn dual_cell_trusting(
     if keys.len() == 1 {
         return refused(4);
     }
-    around(keys, distances, firsts, vertex >> (63 - level * 3))
+    around(keys, distances, firsts, vertex >> (63 - level * 3), level)
 }
 
 // The dual cell of an inner vertex at a level: entry i is the deepest ancestor of side i.

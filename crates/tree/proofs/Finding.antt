@@ -10,9 +10,9 @@ use native.Mathlib.Omega.{arith}
 use lib.Dec.{leb}
 use lib.Ieee.{Float, nan}
 use lib.ListN.{length, getD}
-use borrow.Author.Tests.{le-leb, lt-leb, leb-true}
+use borrow.Author.Tests.{le-leb, lt-leb}
 use Rattle.morton.specs.Level.{deepest, Cell, level, isCell}
-use Rattle.morton.proofs.Levels.{eight, is-cell, cell-level, level-le, largest-hi, eight-pos, eight-mono}
+use Rattle.morton.proofs.Levels.{eight, is-cell, cell-level, level-le, eight-pos, eight-mono}
 use Rattle.morton.proofs.Fields.{cell-up, div-step}
 use Rattle.tree.specs.declared.Lookup.{Lookup}
 use Rattle.tree.specs.declared.Lookup.the-variants.{Found, Nothing, Refused}
@@ -211,23 +211,6 @@ module _ (n : Nodes) (ds : List Float) (k : ℕ) where
 
   pub trusting-refuses : isCell k ≡ false → Refused 1 ≡ trustingOf n ds k
   trusting-refuses c = rw c refl
-
-  -- at most 21 keys are tried
-  down-most : triedIn (downOf n ds k) ≤ deepest
-  unfolding downOf
-  down-most = go (leb 8 (over n (level k) k)) refl
-    where
-      go : (r : Bool) → leb 8 (over n (level k) k) ≡ r
-          → triedIn (cond r (Found (over n (level k) k) (distanceAt ds (placeOver n (level k) k)) (level k - level (over n (level k) k) + 1)) (Nothing (level k))) ≤ deepest
-      go true e = omega (arith, level-le k, largest-hi deepest (over n (level k) k) 1 (omega arith) (leb-true 8 (over n (level k) k) e))
-      go false e = level-le k
-
-  pub trusting-most : triedIn (trustingOf n ds k) ≤ deepest
-  trusting-most = go (isCell k)
-    where
-      go : (r : Bool) → triedIn (cond r (downOf n ds k) (Refused 1)) ≤ deepest
-      go true = down-most
-      go false = omega arith
 
 -- by the level and the place that the code has
 module _ (n : Nodes) (ds : List Float) (k L l place : ℕ) (c : isCell k ≡ true) (e : L ≡ level k) (v : NodeSays n L k l place) where

@@ -4,6 +4,7 @@ use mathlib.Core.Logic.{inl, inr}
 use native.Mathlib.Omega.{arith}
 use borrow.Author.Tests.{not-true, not-false}
 use Rattle.morton.proofs.Vertices.{inner-level}
+use Rattle.dual.proofs.Sharing.{inner-ready}
 use Rattle.dual.proofs.Filling.{trusting-refused, trusting-answers}
 use borrow.Author.Needs.{needs}
 use Rattle.dual.proofs.dual_cell_trusting.Statement.{statement}
@@ -37,7 +38,7 @@ shr-around : tie.Need-shr-around
 shr-around c = let l = inner-level _ _ (sym (c .before .before .is-inner .ensures) ∙ not-false _ (c .before .if1 .left)) in omega arith
 
 around-requires : tie.Need-around-requires
-around-requires c κs = search needs
+around-requires c κs = inner-ready _ _ (omega arith) (sym (c .before .before .is-inner .ensures) ∙ not-false _ (c .before .if1 .left))
 
 returns-3 : tie.Need-returns-3
 returns-3 c = let r = c .around .result in trusting-answers _ _ _ _ (r .keys) (r .distances) _ (r .tried) (sym (c .before .before .before .is-inner .ensures) ∙ not-false _ (c .before .before .if1 .left)) (c .before .if2 .left) refl (c .around .ensures)

@@ -6,7 +6,6 @@ use mathlib.Core.Logic.{inl, inr}
 use native.Mathlib.Omega.{arith}
 use borrow.Author.Needs.{needs}
 use borrow.Author.Tests.{not-true, not-false}
-use denote.Ref.{now}
 use Rattle.tree.specs.Down.{nodesOf}
 use Rattle.tree.proofs.Down.{leads-in}
 use Rattle.tree.proofs.Finding.{Going, going-none, going-more, going-stop, going-end, shifted}

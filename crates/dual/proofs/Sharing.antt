@@ -1,0 +1,180 @@
+-- The ways down that sides share: those of one parent need one way alone, and what it comes to tells the entries of them all. Assumes nothing.
+use Prim.Native.Nat.{ℕ, zero, suc, _+_, _-_, _*_, _/_, _%_, _^_, _≤_, _<_}
+use mathlib.Core.Path.{_≡_, refl, sym, _∙_, ap, ap₂, subst}
+use mathlib.Core.Bool.{true, false, true≢false}
+use mathlib.Core.Logic.{inl}
+use mathlib.Core.List.{List}
+use native.Mathlib.Nat.{div-one}
+use native.Mathlib.Omega.{arith}
+use native.Mathlib.Decide.{decLt, ℕ-discrete}
+use lib.Bits.{bitAnd, and-le-l}
+use lib.Ieee.{Float, ofBits, binary32}
+use lib.ListN.{length, getD, set, length-set}
+use lib.Seq.{getD-set-same, getD-set-other}
+use Rattle.morton.specs.Field.{sub}
+use Rattle.morton.specs.Level.{Cell, level, isCell}
+use Rattle.morton.specs.Vertex.{isInner, isInside}
+use Rattle.morton.proofs.Fields.{bit-le}
+use Rattle.morton.proofs.Levels.{cell-level, cell-is}
+use Rattle.morton.proofs.Sides.{sub-key}
+use Rattle.morton.proofs.Vertices.{is-inside, inner-level, inner-low, inner-code}
+use Rattle.tree.specs.declared.Lookup.{Lookup}
+use Rattle.tree.specs.Down.{Nodes, NodeOver, NodeSays}
+use Rattle.tree.specs.Climb.{distanceAt, trustingOf}
+use Rattle.tree.proofs.Down.{place-le}
+use Rattle.tree.proofs.Finding.{says-over, in-row, in-one, nothing-at, found-at}
+use Rattle.geometry.specs.Near.{near}
+use Rattle.geometry.proofs.Offsets.{Within, kept-lt, kept-none, kept-again, flip-lt, near-cell, within-up, near-step}
+use Rattle.dual.specs.Dual.{lookupAt, EntrySays, EntryFor, WaysSay}
+
+-- ---- the ways, one after another
+
+-- those of the first n sides
+pub record Told (ns : Nodes) (L q n : ℕ) (levels places : List ℕ) : Type 0 where
+  pub eight-levels : length levels ≡ 8
+  pub eight-places : length places ≡ 8
+  pub way : (j : ℕ) → j < n → bitAnd j (q % 8) ≡ 0 → NodeSays ns L (8 * (sub q j / 8)) (getD levels j 0) (getD places j 0)
+
+module _ (ns : Nodes) (L q : ℕ) where
+  pub told-none : (levels places : List ℕ) → length levels ≡ 8 → length places ≡ 8 → Told ns L q 0 levels places
+  told-none levels places l p = record { eight-levels = l; eight-places = p; way = λ j h. absurd (omega arith) }
+
+  pub told-more : (n : ℕ) (levels places : List ℕ) (side l p : ℕ) → n < 8 → Told ns L q n levels places → side ≡ sub q n → NodeSays ns L (8 * (side / 8)) l p
+      → Told ns L q (n + 1) (set levels n l) (set places n p)
+  told-more n levels places side l p h t is s =
+      record {
+        eight-levels = length-set levels n l ∙ t .eight-levels;
+        eight-places = length-set places n p ∙ t .eight-places;
+        way = λ j g e. elim (decLt j n) [
+          | yes k ↦ let o : j ≡ n → ⊥ = λ z. omega arith in
+              rw (getD-set-other levels n j l 0 o, getD-set-other places n j p 0 o) (t .way j k e)
+          | no k ↦ let z : n ≡ j = omega arith in
+              subst (λ (i : ℕ). NodeSays ns L (8 * (sub q i / 8)) (getD (set levels n l) i 0) (getD (set places n p) i 0)) z
+              (rw (getD-set-same levels n l 0 (omega (arith, t .eight-levels)), getD-set-same places n p 0 (omega (arith, t .eight-places)), ← is) s)
+        ];
+      }
+
+  pub told-skip : (n : ℕ) (levels places : List ℕ) → (bitAnd n (q % 8) ≡ 0 → ⊥) → Told ns L q n levels places → Told ns L q (n + 1) levels places
+  told-skip n levels places f t =
+      record {
+        eight-levels = t .eight-levels;
+        eight-places = t .eight-places;
+        way = λ j g e. elim (decLt j n) [
+          | yes k ↦ t .way j k e
+          | no k ↦ let z : j ≡ n = omega arith in absurd (f (subst (λ (i : ℕ). bitAnd i (q % 8) ≡ 0) z e))
+        ];
+      }
+
+  pub told-all : (n : ℕ) (levels places : List ℕ) → 8 ≤ n → Told ns L q n levels places → WaysSay ns L q levels places
+  told-all n levels places h t = record { eight-levels = t .eight-levels; eight-places = t .eight-places; way = λ j g e. t .way j (omega arith) e }
+
+-- ---- an entry, from the node over the first of its eight cells
+
+module _ (ns : Nodes) (x l place : ℕ) where
+  row : (L : ℕ) → 1 ≤ L → l ≡ L → NodeOver ns L (8 * (x / 8)) l place → NodeOver ns L x l (place + x % 8)
+  row zero h e v = absurd (omega arith)
+  row (suc L) h e v = in-row ns L x l place v e
+
+  one : (L : ℕ) → l < L → NodeOver ns L (8 * (x / 8)) l place → NodeOver ns L x l place
+  one zero h v = absurd (omega arith)
+  one (suc L) h v = in-one ns L x l place v (omega arith)
+
+module _ (ds : List Float) (L x l place : ℕ) (h : L ≤ 20) (c : Cell L x) where
+  own : L ≡ level x
+  own = sym (cell-level L x (omega arith) c)
+
+  cell : isCell x ≡ true
+  cell = cell-is L x (omega arith) c
+
+  says : (ns : Nodes) (p : ℕ) → NodeOver ns L x l p → NodeSays ns L x l p
+  says ns p v = inl (omega arith, v)
+
+  pub entry-nothing : 1 ≤ L → l ≡ 0 → EntryFor ds L x l place 0 (ofBits binary32 0) L
+  entry-nothing h1 z ns v =
+      subst (λ (r : Lookup). EntrySays r 0 (ofBits binary32 0) L) (nothing-at ns ds x L l place cell own (says ns place (one ns x l place L (omega arith) v)) z)
+      (record { its-key = refl; its-distance = refl; its-tried = refl })
+
+  found : (ns : Nodes) (p k : ℕ) (d : Float) (m : ℕ) → 0 < l → NodeOver ns L x l p → k ≡ x / 8 ^ (L - l) → d ≡ distanceAt ds p → m ≡ L - l + 1
+      → EntrySays (trustingOf ns ds x) k d m
+  found ns p k d m pos v e f g =
+      subst (λ (r : Lookup). EntrySays r k d m) (found-at ns ds x L l p cell own (says ns p v) pos k d e f)
+      (record { its-key = refl; its-distance = refl; its-tried = g })
+
+  pub entry-row : 0 < l → l ≡ L → (d : Float) → d ≡ distanceAt ds (place + x % 8) → EntryFor ds L x l place x d 1
+  entry-row pos e d f ns v =
+      let z : L - l ≡ 0 = omega arith in
+      found ns (place + x % 8) x d 1 pos (row ns x l place L (omega arith) e v) (sym (ap (λ (m : ℕ). x / 8 ^ m) z ∙ div-one x)) f (omega arith)
+
+  pub entry-one : 0 < l → l < L → (k : ℕ) (d : Float) → k ≡ x / 8 ^ (L - l) → d ≡ distanceAt ds place → EntryFor ds L x l place k d (L - l + 1)
+  entry-one pos g k d e f ns v = found ns place k d (L - l + 1) pos (one ns x l place L g v) e f refl
+
+-- ---- which sides share a way
+
+pub inner-ready : (L v : ℕ) → v < 2 ^ 64 → isInner L v ≡ true → (1 ≤ L) × (L ≤ 20) × (isInside L (v / 2 ^ (63 - L * 3)) ≡ true)
+inner-ready L v word e = go (ℕ-discrete ((v / 2 ^ (63 - L * 3) * 2 ^ (63 - L * 3)) % 2 ^ 64) v)
+  where
+    l : (1 ≤ L) × (L ≤ 20)
+    l = inner-level L v e
+
+    go : Dec ((v / 2 ^ (63 - L * 3) * 2 ^ (63 - L * 3)) % 2 ^ 64 ≡ v) → (1 ≤ L) × (L ≤ 20) × (isInside L (v / 2 ^ (63 - L * 3)) ≡ true)
+    go (yes c) = (l .0, l .1, inner-code L v (l .0) (l .1) word c ∙ e)
+    go (no f) = absurd (true≢false (sym e ∙ inner-low L v (l .0) (l .1) word f))
+
+pub among : (i m : ℕ) → i < 8 → bitAnd i m < 8
+among i m h = omega (arith, and-le-l i m)
+
+-- the sides of the child r of c
+module _ (l c r : ℕ) (h : suc l ≤ 20) (hr : r < 8) (e : isInside (suc l) (8 * c + r) ≡ true) where
+  under : (i : ℕ) → Within (suc l) (8 * c + r) i
+  unfolding Within
+  under i a g = omega (arith, is-inside (suc l) (8 * c + r) e .1 a g, bit-le a i)
+
+  side-near : (i : ℕ) → i < 8 → sub (8 * c + r) i ≡ near (suc l) (8 * c + r) i
+  unfolding near Within
+  side-near i g = sub-key (suc l) (8 * c + r) i (omega arith) (is-inside (suc l) (8 * c + r) e .0) (omega arith) (under i)
+
+  child-side : (i : ℕ) → i < 8 → Cell (suc l) (sub (8 * c + r) i)
+  child-side i g = subst (Cell (suc l)) (sym (side-near i g)) (near-cell (suc l) (8 * c + r) i)
+
+  parent : (i : ℕ) → i < 8 → sub (8 * c + r) i / 8 ≡ near l c (bitAnd i (7 - r))
+  parent i g =
+      omega (arith, side-near i g, near-step l c r i hr g (within-up l c r i hr g (under i)), flip-lt r i hr g)
+
+  child-shares : (i : ℕ) → i < 8 → sub (8 * c + r) (bitAnd i (7 - r)) / 8 ≡ sub (8 * c + r) i / 8
+  child-shares i g = parent (bitAnd i (7 - r)) (kept-lt i r g) ∙ ap (near l c) (kept-again i r g hr) ∙ sym (parent i g)
+
+module _ (L q : ℕ) (h1 : 1 ≤ L) (h : L ≤ 20) (e : isInside L q ≡ true) where
+  up : suc (L - 1) ≡ L
+  up = omega arith
+
+  digits : 8 * (q / 8) + q % 8 ≡ q
+  digits = omega arith
+
+  inside : isInside (suc (L - 1)) (8 * (q / 8) + q % 8) ≡ true
+  inside = ap₂ isInside up digits ∙ e
+
+  side-in : (i : ℕ) → i < 8 → Cell L (sub q i)
+  side-in i g =
+      subst (λ (m : ℕ). Cell m (sub q i)) up
+      (subst (λ (m : ℕ). Cell (suc (L - 1)) (sub m i)) digits (child-side (L - 1) (q / 8) (q % 8) (omega arith) (omega arith) inside i g))
+
+  shares : (i : ℕ) → i < 8 → sub q (bitAnd i (7 - q % 8)) / 8 ≡ sub q i / 8
+  shares i g =
+      subst (λ (m : ℕ). sub m (bitAnd i (7 - q % 8)) / 8 ≡ sub m i / 8) digits (child-shares (L - 1) (q / 8) (q % 8) (omega arith) (omega arith) inside i g)
+
+  -- so the way that is kept serves side i
+  module _ (ns : Nodes) (levels places : List ℕ) (w : WaysSay ns L q levels places) (i : ℕ) (g : i < 8) (side : ℕ) (is : side ≡ sub q i) where
+    abbrev kept : ℕ
+    kept = bitAnd i (7 - q % 8)
+
+    way-over : NodeOver ns L (8 * (side / 8)) (getD levels kept 0) (getD places kept 0)
+    way-over =
+        subst (λ (m : ℕ). NodeOver ns L (8 * m) (getD levels kept 0) (getD places kept 0)) (shares i g ∙ ap (λ (x : ℕ). x / 8) (sym is))
+        (says-over ns L _ _ _ (omega arith) (w .way kept (kept-lt i (q % 8) g) (kept-none i (q % 8) g (omega arith))))
+
+    pub way-ready : length (ns .keys) ≤ 2 ^ 62 → (1 ≤ L) × (L ≤ 20) × (getD levels kept 0 ≤ L) × (getD places kept 0 ≤ 2 ^ 62) × Cell L side
+    way-ready few =
+        (h1, h, way-over .no-deeper, omega (arith, way-over .at, place-le ns L (8 * (side / 8))), subst (Cell L) (sym is) (side-in i g))
+
+    pub way-entry : (ds : List Float) (k : ℕ) (d : Float) (m : ℕ) → EntryFor ds L side (getD levels kept 0) (getD places kept 0) k d m → EntrySays (lookupAt ns ds q i) k d m
+    way-entry ds k d m f = subst (λ (x : ℕ). EntrySays (trustingOf ns ds x) k d m) is (f ns way-over)
