@@ -25,11 +25,11 @@ use Rattle.tree.proofs.Down.{place-le}
 use Rattle.tree.proofs.Finding.{says-over, in-row, in-one, nothing-at, found-at}
 use Rattle.geometry.specs.Near.{near}
 use Rattle.geometry.proofs.Offsets.{Within, kept-lt, kept-none, kept-again, flip-lt, near-cell, within-up, near-step}
-use Rattle.dual.specs.Dual.{lookupAt, EntrySays, EntryFor, WaysSay}
+use Rattle.dual.specs.Dual.{lookupAt, EntrySays, EntryFor}
 
 -- ---- the ways, one after another
 
--- those of the first n sides
+-- of the first n sides, for each that is lower on no axis on which q is odd: the node over the first of the eight cells that it is one of, by level and place
 pub record Told (ns : Nodes) (L q n : ℕ) (levels places : List ℕ) : Type 0 where
   pub eight-levels : length levels ≡ 8
   pub eight-places : length places ≡ 8
@@ -64,9 +64,6 @@ module _ (ns : Nodes) (L q : ℕ) where
           | no k ↦ let z : j ≡ n = omega arith in absurd (f (subst (λ (i : ℕ). bitAnd i (q % 8) ≡ 0) z e))
         ];
       }
-
-  pub told-all : (n : ℕ) (levels places : List ℕ) → 8 ≤ n → Told ns L q n levels places → WaysSay ns L q levels places
-  told-all n levels places h t = record { eight-levels = t .eight-levels; eight-places = t .eight-places; way = λ j g e. t .way j (omega arith) e }
 
 -- ---- an entry, from the node over the first of its eight cells
 
@@ -163,14 +160,14 @@ module _ (L q : ℕ) (h1 : 1 ≤ L) (h : L ≤ 20) (e : isInside L q ≡ true) w
       subst (λ (m : ℕ). sub m (bitAnd i (7 - q % 8)) / 8 ≡ sub m i / 8) digits (child-shares (L - 1) (q / 8) (q % 8) (omega arith) (omega arith) inside i g)
 
   -- so the way that is kept serves side i
-  module _ (ns : Nodes) (levels places : List ℕ) (w : WaysSay ns L q levels places) (i : ℕ) (g : i < 8) (side : ℕ) (is : side ≡ sub q i) where
+  module _ (ns : Nodes) (n : ℕ) (levels places : List ℕ) (all : 8 ≤ n) (w : Told ns L q n levels places) (i : ℕ) (g : i < 8) (side : ℕ) (is : side ≡ sub q i) where
     abbrev kept : ℕ
     kept = bitAnd i (7 - q % 8)
 
     way-over : NodeOver ns L (8 * (side / 8)) (getD levels kept 0) (getD places kept 0)
     way-over =
         subst (λ (m : ℕ). NodeOver ns L (8 * m) (getD levels kept 0) (getD places kept 0)) (shares i g ∙ ap (λ (x : ℕ). x / 8) (sym is))
-        (says-over ns L _ _ _ (omega arith) (w .way kept (kept-lt i (q % 8) g) (kept-none i (q % 8) g (omega arith))))
+        (says-over ns L _ _ _ (omega arith) (w .way kept (omega (arith, kept-lt i (q % 8) g)) (kept-none i (q % 8) g (omega arith))))
 
     pub way-ready : length (ns .keys) ≤ 2 ^ 62 → (1 ≤ L) × (L ≤ 20) × (getD levels kept 0 ≤ L) × (getD places kept 0 ≤ 2 ^ 62) × Cell L side
     way-ready few =

@@ -1,10 +1,9 @@
 -- What a dual cell is, and what the call answers. Assumes nothing.
-use Prim.Native.Nat.{ℕ, zero, suc, _+_, _-_, _*_, _/_, _%_, _^_, _<_}
+use Prim.Native.Nat.{ℕ, zero, suc, _+_, _-_, _*_, _/_, _^_, _<_}
 use mathlib.Core.Path.{_≡_}
 use mathlib.Core.Bool.{true, false}
 use mathlib.Core.Logic.{_⊎_}
 use mathlib.Core.List.{List}
-use lib.Bits.{bitAnd}
 use lib.Ieee.{Float, nan, ofBits, binary32}
 use lib.ListN.{length, getD, replicate}
 use Rattle.morton.specs.Field.{sub}
@@ -14,7 +13,7 @@ use Rattle.tree.specs.Tree.{Tree, Sound}
 use Rattle.tree.specs.declared.Lookup.{Lookup}
 use Rattle.tree.specs.declared.Lookup.the-variants as lookup
 use Rattle.tree.specs.declared.Lookup.the-variants.{Found, Nothing}
-use Rattle.tree.specs.Down.{Nodes, NodeOver, NodeSays}
+use Rattle.tree.specs.Down.{Nodes, NodeOver}
 use Rattle.tree.specs.Climb.{Deepest, trustingOf, triedIn}
 use Rattle.dual.specs.declared.Tried.{Tried}
 use Rattle.dual.specs.declared.Tried.the-variants.{Keys, Refused}
@@ -87,23 +86,17 @@ abbrev pub TrustingSays : Nodes → List Float → ℕ → ℕ → List ℕ → 
 TrustingSays ns ds L v keys distances (Keys n) = (isInner L v ≡ true) × (length (ns .keys) ≡ 1 → ⊥) × Around ns ds (v / 8 ^ (deepest - L)) keys distances n
 TrustingSays ns ds L v keys distances (Refused k) = (keys ≡ noKeys) × (distances ≡ noDistances) × NoCell (ns .keys) L v × (k ≡ 4)
 
--- One entry.
+-- ---- what the steps of the call promise
+
+-- The entry that an answer gives.
 pub record EntrySays (answer : Lookup) (key : ℕ) (distance : Float) (tried : ℕ) : Type 0 where
   pub its-key : key ≡ keyIn answer
   pub its-distance : distance ≡ distanceIn answer
   pub its-tried : tried ≡ triedIn answer
 
--- ---- what the steps of the call promise
-
 -- The same of a side of level L, from the node over the first of the eight cells that it is one of.
 abbrev pub EntryFor : List Float → ℕ → ℕ → ℕ → ℕ → ℕ → Float → ℕ → Type 0
 EntryFor ds L side l place key distance tried = (ns : Nodes) → NodeOver ns L (8 * (side / 8)) l place → EntrySays (trustingOf ns ds side) key distance tried
-
--- That node, by level and place, for each side that is lower on no axis on which q is odd.
-pub record WaysSay (ns : Nodes) (L q : ℕ) (levels places : List ℕ) : Type 0 where
-  pub eight-levels : length levels ≡ 8
-  pub eight-places : length places ≡ 8
-  pub way : (j : ℕ) → j < 8 → bitAnd j (q % 8) ≡ 0 → NodeSays ns L (8 * (sub q j / 8)) (getD levels j 0) (getD places j 0)
 
 -- What a refused call hands back.
 pub record RefusedSays (number : ℕ) (keys : List ℕ) (distances : List Float) (tried : Tried) : Type 0 where

@@ -10,7 +10,7 @@ ghost use Rattle.morton.specs.Vertex.{isInside};
 ghost use Rattle.tree.specs.Tree.{treeOf};
 ghost use Rattle.tree.specs.Down.{nodesOf};
 ghost use Rattle.dual.specs.Slab.{slabAnswer};
-ghost use Rattle.dual.specs.Dual.{DualSays, WaysSay, EntryFor, RefusedSays, AroundSays, TrustingSays};
+ghost use Rattle.dual.specs.Dual.{DualSays, EntryFor, RefusedSays, AroundSays, TrustingSays};
 
 // How many keys were tried, or the number of the refusal.
 pub enum Tried {
@@ -47,33 +47,6 @@ fn side(middle: u64, i: usize) -> u64
     key.code
 }
 
-// The ways down to the sides of a vertex. Sides that are children of one parent share a way: it leads to the node over the parent's first child, and is kept
-// at the one side of them that is lower on no axis on which the vertex is odd.
-struct Ways {
-    levels: [u32; 8],
-    places: [usize; 8],
-}
-
-fn ways_down(keys: &[u64], firsts: &[u16], middle: u64, level: u32) -> Ways
-    ensures { λ r. ⌜ WaysSay (nodesOf (now (keys .entry)) (now (firsts .entry))) level middle (r .levels) (r .places) ⌝ }
-{
-    let odd = (middle % 8) as usize;
-    let mut levels = [0u32; 8];
-    let mut places = [0usize; 8];
-    let mut j: usize = 0;
-    while j < 8 {
-        if j & odd == 0 {
-            let node = tree::go_down(keys, firsts, level, 8 * (side(middle, j) / 8));
-            levels[j] = node.level;
-            places[j] = node.place;
-            j += 1;
-        } else {
-            j += 1;
-        }
-    }
-    Ways { levels, places }
-}
-
 // The entry for a side, from the node over its parent's first child: beside that, if it is the child itself, else the same node. 0 and 0 where that is the root.
 fn entry_for(distances: &[f32], side: u64, level: u32, at: u32, place: usize) -> Entry
     requires { ⌜ (1 ≤ level) × (level ≤ 20) × (at ≤ level) × (place ≤ 2 ^ 62) × Cell level side ⌝ }
@@ -100,20 +73,41 @@ fn entry_for(distances: &[f32], side: u64, level: u32, at: u32, place: usize) ->
     }
 }
 
-// The entries on the eight sides of a vertex that is `middle` at its level, each written anew.
+// The entries on the eight sides of a vertex that is `middle` at its level, each written anew. Sides that are children of one parent share a way down: it leads
+// to the node over the parent's first child, and is kept at the one side of them that is lower on no axis on which the vertex is odd. Both loops stand here,
+// since an array that is handed on is copied.
 fn around(keys: &[u64], distances: &[f32], firsts: &[u16], middle: u64, level: u32) -> Dual
     requires { ⌜ (1 ≤ level) × (level ≤ 20) × (isInside level middle ≡ true) ⌝ }
     ensures { λ r. ⌜ AroundSays (nodesOf (now (keys .entry)) (now (firsts .entry))) (now (distances .entry)) middle (r .keys) (r .distances) (r .tried) ⌝ }
 {
-    let w = ways_down(keys, firsts, middle, level);
-    let even = 7 - (middle % 8) as usize;
+    let odd = (middle % 8) as usize;
+    let mut levels = [0u32; 8];
+    let mut places = [0usize; 8];
+    let mut j: usize = 0;
+    while j < 8 {
+        if j & odd == 0 {
+            let node = tree::go_down(keys, firsts, level, 8 * (side(middle, j) / 8));
+            levels[j] = node.level;
+            places[j] = node.place;
+            j += 1;
+        } else {
+            j += 1;
+        }
+    }
+    let even = 7 - odd;
     let mut found = [0u64; 8];
     let mut theirs = [0.0f32; 8];
     let mut tried: u32 = 0;
     let mut i: usize = 0;
     while i < 8 {
-        let j = i & even;
-        let e = entry_for(distances, side(middle, i), level, w.levels[j], w.places[j]);
+        let kept = i & even;
+        let e = entry_for(
+            distances,
+            side(middle, i),
+            level,
+            levels[kept],
+            places[kept],
+        );
         found[i] = e.key;
         theirs[i] = e.distance;
         tried += e.tried;

@@ -1,4 +1,5 @@
--- `around` meets its contract: each turn fills one entry. Assumes nothing.
+-- `around` meets its contract: a turn of the first loop finds one way, or skips a side that shares one; a turn of the second fills one entry. Assumes
+-- nothing.
 use Prim.Native.Nat.{_-_, _*_, _≤_}
 use mathlib.Core.Path.{refl}
 use native.Mathlib.Omega.{arith}
@@ -6,70 +7,115 @@ use lib.Dec.{lit<}
 use borrow.Author.Needs.{needs, scaled-fits}
 use Rattle.morton.specs.Level.{deepest}
 use Rattle.tree.specs.Down.{nodesOf}
-use Rattle.dual.proofs.Sharing.{among, way-ready, way-entry}
+use Rattle.dual.proofs.Sharing.{Told, told-none, told-more, told-skip, among, way-ready, way-entry}
 use Rattle.dual.proofs.Filling.{Filled, filled-none, filled-more, filled-all}
 use Rattle.dual.proofs.around.Statement.{statement}
 use Rattle.dual.proofs.around.Tie as tie
 
 abbrev Inv-loop : tie.InvT-loop
-Inv-loop keys distances firsts middle level w even found₀ theirs₀ tried₀ i₀ found theirs tried i = (i ≤ 8) × (tried ≤ deepest * i) × Filled (nodesOf keys firsts) distances middle i found theirs tried
+Inv-loop keys distances firsts middle level odd levels₀ places₀ j₀ levels places j = (j ≤ 8) × Told (nodesOf keys firsts) level middle j levels places
 
 abbrev μ-loop : tie.MeasureT-loop
-μ-loop keys distances firsts middle level w even found₀ theirs₀ tried₀ i₀ found theirs tried i = 8 - i
+μ-loop keys distances firsts middle level odd levels₀ places₀ j₀ levels places j = 8 - j
 
-ways-down-requires : tie.Need-ways-down-requires Inv-loop μ-loop
-ways-down-requires c κs = search needs
+abbrev Inv-loop2 : tie.InvT-loop2
+Inv-loop2 keys distances firsts middle level odd levels places j even found₀ theirs₀ tried₀ i₀ found theirs tried i = (i ≤ 8) × (tried ≤ deepest * i) × Filled (nodesOf keys firsts) distances middle i found theirs tried
 
-sub-even : tie.Need-sub-even Inv-loop μ-loop
-sub-even c = search needs
+abbrev μ-loop2 : tie.MeasureT-loop2
+μ-loop2 keys distances firsts middle level odd levels places j even found₀ theirs₀ tried₀ i₀ found theirs tried i = 8 - i
 
-loop-holds : tie.Need-loop-holds Inv-loop μ-loop
-loop-holds c = (omega arith, omega arith, filled-none _ _ _ _ _ refl refl)
+loop-holds : tie.Need-loop-holds Inv-loop μ-loop Inv-loop2 μ-loop2
+loop-holds c = (omega arith, told-none _ _ _ _ _ refl refl)
 
-side-requires : tie.Need-side-requires Inv-loop μ-loop
+side-requires : tie.Need-side-requires Inv-loop μ-loop Inv-loop2 μ-loop2
 side-requires c κs = search needs
 
-mul-entry-for : tie.Need-mul-entry-for Inv-loop μ-loop
-mul-entry-for c = scaled-fits _ 8 _ (among _ _ (c .before .loop-test .taken)) (lit< tt)
+mul-go-down : tie.Need-mul-go-down Inv-loop μ-loop Inv-loop2 μ-loop2
+mul-go-down c = search needs
 
-element-copy-out-entry-for : tie.Need-element-copy-out-entry-for Inv-loop μ-loop
-element-copy-out-entry-for c = among _ _ (c .before .loop-test .taken)
+go-down-requires : tie.Need-go-down-requires Inv-loop μ-loop Inv-loop2 μ-loop2
+go-down-requires c κs = search needs
 
-mul-entry-for-2 : tie.Need-mul-entry-for-2 Inv-loop μ-loop
-mul-entry-for-2 c = scaled-fits _ 8 _ (among _ _ (c .before .before .loop-test .taken)) (lit< tt)
+mul-levels : tie.Need-mul-levels Inv-loop μ-loop Inv-loop2 μ-loop2
+mul-levels c = search needs
 
-element-copy-out-entry-for-2 : tie.Need-element-copy-out-entry-for-2 Inv-loop μ-loop
-element-copy-out-entry-for-2 c = among _ _ (c .before .before .loop-test .taken)
+array-write-levels : tie.Need-array-write-levels Inv-loop μ-loop Inv-loop2 μ-loop2
+array-write-levels c = search needs
 
-entry-for-requires : tie.Need-entry-for-requires Inv-loop μ-loop
-entry-for-requires c κs = let p = c .before .before .before .before .before .before .before .before .before .pre in way-ready _ _ (p .0) (p .1) (p .2) _ _ _ (c .before .before .before .before .before .ways-down .ensures) (c .before .before .before .before .loop .i) (omega arith) _ (c .before .before .side .ensures) (omega arith)
+mul-places : tie.Need-mul-places Inv-loop μ-loop Inv-loop2 μ-loop2
+mul-places c = search needs
 
-mul-found : tie.Need-mul-found Inv-loop μ-loop
-mul-found c = search needs
+array-write-places : tie.Need-array-write-places Inv-loop μ-loop Inv-loop2 μ-loop2
+array-write-places c = search needs
 
-array-write-found : tie.Need-array-write-found Inv-loop μ-loop
-array-write-found c = search needs
+add-j : tie.Need-add-j Inv-loop μ-loop Inv-loop2 μ-loop2
+add-j c = search needs
 
-mul-theirs : tie.Need-mul-theirs Inv-loop μ-loop
-mul-theirs c = search needs
-
-array-write-theirs : tie.Need-array-write-theirs Inv-loop μ-loop
-array-write-theirs c = search needs
-
-add-tried : tie.Need-add-tried Inv-loop μ-loop
-add-tried c = record { fits = omega (arith, c .before .entry-for .ensures .1) }
-
-add-i : tie.Need-add-i Inv-loop μ-loop
-add-i c = search needs
-
-loop-less : tie.Need-loop-less Inv-loop μ-loop
+loop-less : tie.Need-loop-less Inv-loop μ-loop Inv-loop2 μ-loop2
 loop-less c = search needs
 
-loop-again : tie.Need-loop-again Inv-loop μ-loop
-loop-again c = (omega arith, omega (arith, c .before .entry-for .ensures .1), filled-more _ _ _ (c .before .before .before .before .before .before .loop .i) _ _ _ _ _ _ (omega arith) (c .before .before .before .before .before .before .loop .inv .2) (let p = c .before .before .before .before .before .before .before .before .before .before .before .pre in way-entry _ _ (p .0) (p .1) (p .2) _ _ _ (c .before .before .before .before .before .before .before .ways-down .ensures) (c .before .before .before .before .before .before .loop .i) (omega arith) _ (c .before .before .before .before .side .ensures) _ _ _ _ (c .before .entry-for .ensures .0)))
+loop-again : tie.Need-loop-again Inv-loop μ-loop Inv-loop2 μ-loop2
+loop-again c = (omega arith, told-more _ _ _ (c .before .before .before .before .loop .j) _ _ _ _ _ (omega arith) (c .before .before .before .before .loop .inv .1) (c .before .side .ensures) (c .go-down .ensures))
 
-returns : tie.Need-returns Inv-loop μ-loop
-returns c = filled-all _ _ _ (c .before .loop .i) _ _ _ (omega arith) (omega arith) (c .before .loop .inv .2)
+add-j-2 : tie.Need-add-j-2 Inv-loop μ-loop Inv-loop2 μ-loop2
+add-j-2 c = search needs
+
+loop-less-2 : tie.Need-loop-less-2 Inv-loop μ-loop Inv-loop2 μ-loop2
+loop-less-2 c = search needs
+
+loop-again-2 : tie.Need-loop-again-2 Inv-loop μ-loop Inv-loop2 μ-loop2
+loop-again-2 c = (omega arith, told-skip _ _ _ (c .before .before .loop .j) _ _ (c .if1 .left) (c .before .before .loop .inv .1))
+
+sub-even : tie.Need-sub-even Inv-loop μ-loop Inv-loop2 μ-loop2
+sub-even c = search needs
+
+loop2-holds : tie.Need-loop2-holds Inv-loop μ-loop Inv-loop2 μ-loop2
+loop2-holds c = (omega arith, omega arith, filled-none _ _ _ _ _ refl refl)
+
+side-requires-2 : tie.Need-side-requires-2 Inv-loop μ-loop Inv-loop2 μ-loop2
+side-requires-2 c κs = search needs
+
+mul-entry-for : tie.Need-mul-entry-for Inv-loop μ-loop Inv-loop2 μ-loop2
+mul-entry-for c = scaled-fits _ 8 _ (among _ _ (c .before .loop2-test .taken)) (lit< tt)
+
+array-read-entry-for : tie.Need-array-read-entry-for Inv-loop μ-loop Inv-loop2 μ-loop2
+array-read-entry-for c = among _ _ (c .before .loop2-test .taken)
+
+mul-entry-for-2 : tie.Need-mul-entry-for-2 Inv-loop μ-loop Inv-loop2 μ-loop2
+mul-entry-for-2 c = scaled-fits _ 8 _ (among _ _ (c .before .loop2-test .taken)) (lit< tt)
+
+array-read-entry-for-2 : tie.Need-array-read-entry-for-2 Inv-loop μ-loop Inv-loop2 μ-loop2
+array-read-entry-for-2 c = among _ _ (c .before .loop2-test .taken)
+
+entry-for-requires : tie.Need-entry-for-requires Inv-loop μ-loop Inv-loop2 μ-loop2
+entry-for-requires c κs = let p = c .before .before .before .before .before .before .before .before .pre in way-ready _ _ (p .0) (p .1) (p .2) _ _ _ _ (c .before .before .before .loop-test .left) (c .before .before .before .before .loop .inv .1) (c .before .before .loop2 .i) (omega arith) _ (c .side2 .ensures) (omega arith)
+
+mul-found : tie.Need-mul-found Inv-loop μ-loop Inv-loop2 μ-loop2
+mul-found c = search needs
+
+array-write-found : tie.Need-array-write-found Inv-loop μ-loop Inv-loop2 μ-loop2
+array-write-found c = search needs
+
+mul-theirs : tie.Need-mul-theirs Inv-loop μ-loop Inv-loop2 μ-loop2
+mul-theirs c = search needs
+
+array-write-theirs : tie.Need-array-write-theirs Inv-loop μ-loop Inv-loop2 μ-loop2
+array-write-theirs c = search needs
+
+add-tried : tie.Need-add-tried Inv-loop μ-loop Inv-loop2 μ-loop2
+add-tried c = record { fits = omega (arith, c .before .entry-for .ensures .1) }
+
+add-i : tie.Need-add-i Inv-loop μ-loop Inv-loop2 μ-loop2
+add-i c = search needs
+
+loop2-less : tie.Need-loop2-less Inv-loop μ-loop Inv-loop2 μ-loop2
+loop2-less c = search needs
+
+loop2-again : tie.Need-loop2-again Inv-loop μ-loop Inv-loop2 μ-loop2
+loop2-again c = let p = c .before .before .before .before .before .before .before .before .before .before .pre in (omega arith, omega (arith, c .before .entry-for .ensures .1), filled-more _ _ _ (c .before .before .before .before .loop2 .i) _ _ _ _ _ _ (omega arith) (c .before .before .before .before .loop2 .inv .2) (way-entry _ _ (p .0) (p .1) (p .2) _ _ _ _ (c .before .before .before .before .before .loop-test .left) (c .before .before .before .before .before .before .loop .inv .1) (c .before .before .before .before .loop2 .i) (omega arith) _ (c .before .before .side2 .ensures) _ _ _ _ (c .before .entry-for .ensures .0)))
+
+returns : tie.Need-returns Inv-loop μ-loop Inv-loop2 μ-loop2
+returns c = filled-all _ _ _ (c .before .loop2 .i) _ _ _ (omega arith) (omega arith) (c .before .loop2 .inv .2)
 
 pub around-spec : {M : Type 1} → statement M
 around-spec =
@@ -77,14 +123,29 @@ around-spec =
     (tie.spec
     Inv-loop
     μ-loop
-    ways-down-requires
-    sub-even
+    Inv-loop2
+    μ-loop2
     loop-holds
     side-requires
+    mul-go-down
+    go-down-requires
+    mul-levels
+    array-write-levels
+    mul-places
+    array-write-places
+    add-j
+    loop-less
+    loop-again
+    add-j-2
+    loop-less-2
+    loop-again-2
+    sub-even
+    loop2-holds
+    side-requires-2
     mul-entry-for
-    element-copy-out-entry-for
+    array-read-entry-for
     mul-entry-for-2
-    element-copy-out-entry-for-2
+    array-read-entry-for-2
     entry-for-requires
     mul-found
     array-write-found
@@ -92,6 +153,6 @@ around-spec =
     array-write-theirs
     add-tried
     add-i
-    loop-less
-    loop-again
+    loop2-less
+    loop2-again
     returns)
