@@ -1,9 +1,9 @@
 //! States of a build that no build made, and tables that hold anything.
 
 use crate::inputs::{first_cell, last_cell, Random};
-use crate::model::build::Tables;
+use crate::model::build::{Tables, STATE_WORDS, TABLES};
 
-/// Eight words, or another number of them, and tables.
+/// The words of a state, or another number of them, and tables.
 #[derive(Clone)]
 pub struct Forged {
     pub words: Vec<u64>,
@@ -39,7 +39,7 @@ fn unfitting_key(bound: u64, random: &mut Random) -> u64 {
 
 impl Forged {
     /// With tables of these lengths, whose places hold anything. It fits.
-    pub fn new(lengths: [usize; 4], random: &mut Random) -> Self {
+    pub fn new(lengths: [usize; TABLES], random: &mut Random) -> Self {
         let bound = random.below(16);
         let mut tables = garbage(lengths);
         if random.below(2) == 0 {
@@ -57,8 +57,8 @@ impl Forged {
     }
 
     fn rooms(&self) -> [u64; 3] {
-        let [keys, distances, leaves, queue] = self.tables.lengths();
-        [keys.min(distances).min(4096), leaves, queue]
+        let [keys, distances, firsts, leaves, queue] = self.tables.lengths();
+        [keys.min(distances).min(firsts).min(4096), leaves, queue]
     }
 
     /// Some n and m that fit, often at an edge.
@@ -99,7 +99,7 @@ impl Forged {
     /// Changes one thing, so that it may no longer fit.
     pub fn change(&mut self, random: &mut Random) {
         let bound = self.words[0] % 16;
-        let word = random.below(8) as usize;
+        let word = random.below(STATE_WORDS as u64) as usize;
         let either = [1, u64::MAX][random.below(2) as usize];
         match random.below(12) {
             0 => self.words[word] = self.words[word].wrapping_add(either),
@@ -115,7 +115,7 @@ impl Forged {
                 self.words[2] = self.words[2].wrapping_add(either.wrapping_mul(7));
             }
             8 => self.words[2] = self.words[2].wrapping_add(either),
-            9 => self.words.truncate(random.below(8) as usize),
+            9 => self.words.truncate(random.below(STATE_WORDS as u64) as usize),
             10 => self.words.extend([random.number(), 1, 2].iter().take(1 + random.below(3) as usize)),
             _ => self.words.iter_mut().take(4).for_each(|word| *word = random.number()),
         }
@@ -123,7 +123,7 @@ impl Forged {
 
     /// Changes the length of a table, and sometimes says so in the state.
     fn change_length(&mut self, random: &mut Random) {
-        let (longer, table) = (random.below(2) == 0, random.below(4) as usize);
+        let (longer, table) = (random.below(2) == 0, random.below(TABLES as u64) as usize);
         self.resize(table, longer);
         if random.below(3) == 0 {
             self.words[4 + table] = self.tables.lengths()[table];
@@ -135,7 +135,8 @@ impl Forged {
         match table {
             0 => resize(&mut self.tables.keys, longer),
             1 => resize(&mut self.tables.distances, longer),
-            2 => resize(&mut self.tables.leaves, longer),
+            2 => resize(&mut self.tables.firsts, longer),
+            3 => resize(&mut self.tables.leaves, longer),
             _ => resize(&mut self.tables.queue, longer),
         }
     }
@@ -149,17 +150,19 @@ fn resize<T: Copy + Default>(table: &mut Vec<T>, longer: bool) {
     }
 }
 
-/// Lengths of the four tables.
-pub fn some_lengths(random: &mut Random) -> [usize; 4] {
-    let mut lengths = [(); 4].map(|()| LENGTHS[random.below(LENGTHS.len() as u64) as usize]);
-    if random.below(2) == 0 {
-        lengths[1] = lengths[0];
+/// Lengths of the tables.
+pub fn some_lengths(random: &mut Random) -> [usize; TABLES] {
+    let mut lengths = [(); TABLES].map(|()| LENGTHS[random.below(LENGTHS.len() as u64) as usize]);
+    // As many places for each part of a node, or for all but one.
+    if random.below(3) > 0 {
+        let (nodes, other) = (lengths[0], random.below(4) as usize);
+        (0..3).filter(|&table| table != other).for_each(|table| lengths[table] = nodes);
     }
     lengths
 }
 
 /// Tables in which each place holds something else, and nothing that a build writes.
-pub fn garbage(lengths: [usize; 4]) -> Tables {
+pub fn garbage(lengths: [usize; TABLES]) -> Tables {
     let mut tables = Tables::of(lengths);
     let tables_of_keys = [&mut tables.keys, &mut tables.leaves, &mut tables.queue];
     for (number, table) in tables_of_keys.into_iter().enumerate() {
@@ -169,6 +172,9 @@ pub fn garbage(lengths: [usize; 4]) -> Tables {
     }
     for (place, distance) in tables.distances.iter_mut().enumerate() {
         *distance = 0xffab_0000 + place as u32;
+    }
+    for (place, first) in tables.firsts.iter_mut().enumerate() {
+        *first = 0xba00 + place as u16 % 0x4600;
     }
     tables
 }

@@ -1,8 +1,8 @@
 //! Whole trees over a field: by the rule of document 01, and by both builds of the published text.
 
 use crate::inputs::Random;
-use crate::model::build::Request;
-use crate::model::reading::Tables;
+use crate::model::build::{Request, TABLES};
+use crate::model::reading::{firsts_of, Tables};
 use crate::{integer, model, published};
 use std::collections::VecDeque;
 
@@ -60,10 +60,12 @@ impl Tree {
 
     /// As it is read.
     pub fn tables(&self) -> Tables {
+        let keys: Vec<u64> = self.nodes.iter().map(|node| node.request.key).collect();
         Tables {
-            keys: self.nodes.iter().map(|node| node.request.key).collect(),
             distances: self.nodes.iter().map(|node| node.distance.to_bits()).collect(),
+            firsts: firsts_of(&keys),
             leaves: self.leaves.clone(),
+            keys,
         }
     }
 
@@ -86,11 +88,12 @@ impl Tree {
         waiting.collect()
     }
 
-    /// The least lengths with which its build finishes: node keys, node distances, leaves and queue.
-    pub fn needs(&self) -> [usize; 4] {
+    /// The least lengths with which its build finishes: node keys, node distances, first children, leaves and queue.
+    pub fn needs(&self) -> [usize; TABLES] {
         let splits = self.nodes.iter().zip(self.waiting()).filter(|(node, _)| !self.is_leaf(node.request.key));
         let queue = splits.map(|(_, waiting)| waiting + 8).max().expect("the root is split");
-        [self.nodes.len(), self.nodes.len(), self.leaves.len(), queue]
+        let nodes = self.nodes.len();
+        [nodes, nodes, nodes, self.leaves.len(), queue]
     }
 }
 
@@ -154,7 +157,7 @@ pub fn grown(growth: Growth, splits: usize, deepest: u32, random: &mut Random) -
     let mut keys: Vec<u64> = split.into_iter().chain(leaves.iter().copied()).collect();
     keys.sort_unstable();
     let distances = keys.iter().map(|_| if random.below(4) == 0 { odd(random) } else { random.finite_bits() }).collect();
-    Tables { keys, distances, leaves }
+    Tables { firsts: firsts_of(&keys), keys, distances, leaves }
 }
 
 /// A tree of a few nodes, often with leaves of level 15.

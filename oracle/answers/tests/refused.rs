@@ -2,7 +2,7 @@
 
 use oracle_answers::fields::cell_at;
 use oracle_answers::inputs::BROKEN_DISTANCES;
-use oracle_answers::model::build::{self, Tables, STATE_WORDS};
+use oracle_answers::model::build::{self, Tables, STATE_WORDS, TABLES};
 use oracle_answers::trees::{Field, Tree};
 use oracle_answers::{compares_with_text, model, published};
 
@@ -33,7 +33,7 @@ fn where_we_refuse_the_rust_answers_something() {
 
 /// The refusal of the first distance that is refused in a build with room, and the key that is then asked for.
 fn refused(bound: u32, field: &Field) -> Option<(u32, u64)> {
-    let (mut state, mut tables) = ([0; STATE_WORDS], Tables::of([1000; 4]));
+    let (mut state, mut tables) = ([0; STATE_WORDS], Tables::of([1000; TABLES]));
     let mut asked = build::start(bound, &tables, &mut state).map(Some);
     while let Ok(Some(request)) = asked {
         asked = build::distance(&mut state, &mut tables, field(request.centre));

@@ -8,6 +8,7 @@ use super::{centre, child, half_size, is_cell, is_finite, level, should_refine, 
 pub struct Tables {
     pub keys: Vec<u64>,
     pub distances: Vec<u32>,
+    pub firsts: Vec<u16>,
     pub leaves: Vec<u64>,
     pub queue: Vec<u64>,
 }
@@ -20,27 +21,37 @@ pub struct Request {
     pub half: f32,
 }
 
-/// The words of a state: the bound, n, m and the asked key (0: nothing is asked), then the lengths of node keys, node
-/// distances, leaf keys and queue at the start.
-pub const STATE_WORDS: usize = 8;
+/// How many tables are lent: node keys, node distances, first children, leaf keys and queue.
+pub const TABLES: usize = 5;
+
+/// The words of a state: the bound, n, m and the asked key (0: nothing is asked), then the lengths of the tables at the start.
+pub const STATE_WORDS: usize = 4 + TABLES;
 
 const GREATEST_BOUND: u64 = 15;
 const GREATEST_NODE_ROOM: i128 = 4096;
 
 impl Tables {
     /// Tables of these lengths, in the order of a state's words, all places 0.
-    pub fn of(lengths: [usize; 4]) -> Self {
-        let [keys, distances, leaves, queue] = lengths;
-        Tables { keys: vec![0; keys], distances: vec![0; distances], leaves: vec![0; leaves], queue: vec![0; queue] }
+    pub fn of(lengths: [usize; TABLES]) -> Self {
+        let [keys, distances, firsts, leaves, queue] = lengths;
+        Tables {
+            keys: vec![0; keys],
+            distances: vec![0; distances],
+            firsts: vec![0; firsts],
+            leaves: vec![0; leaves],
+            queue: vec![0; queue],
+        }
     }
 
-    pub fn lengths(&self) -> [u64; 4] {
-        [self.keys.len(), self.distances.len(), self.leaves.len(), self.queue.len()].map(|length| length as u64)
+    pub fn lengths(&self) -> [u64; TABLES] {
+        [self.keys.len(), self.distances.len(), self.firsts.len(), self.leaves.len(), self.queue.len()]
+            .map(|length| length as u64)
     }
 
-    /// Node room is the shorter of the first two lengths, at most 4,096.
+    /// Node room is the shortest of the first three lengths, at most 4,096.
     fn node_room(&self) -> i128 {
-        (self.keys.len().min(self.distances.len()) as i128).min(GREATEST_NODE_ROOM)
+        let shortest = self.keys.len().min(self.distances.len()).min(self.firsts.len());
+        (shortest as i128).min(GREATEST_NODE_ROOM)
     }
 
     fn leaf_room(&self) -> i128 {
@@ -72,7 +83,7 @@ fn is_cell_of_grid(key: u64, bound: u64) -> bool {
     is_cell(key) && level(key) as u64 <= bound.max(2)
 }
 
-/// Whether a state fits its tables. Other than eight words are no state at all.
+/// Whether a state fits its tables. Another number of words is no state at all.
 fn fits(state: &[u64], tables: &Tables) -> bool {
     if state.len() != STATE_WORDS || state[4..] != tables.lengths() {
         return false;
@@ -130,6 +141,8 @@ pub fn distance(state: &mut [u64], tables: &mut Tables, distance: f32) -> Answer
 
     tables.keys[n as usize] = asked;
     tables.distances[n as usize] = distance.to_bits();
+    // The place of the first child: all cells that were ever queued, eight for each split, get their places in turn.
+    tables.firsts[n as usize] = if splits { (8 * (n - m) + 1) as u16 } else { 0 };
     state[1] += 1;
     if splits {
         for which in 0..8 {

@@ -1,18 +1,19 @@
-//! Document 01, "Reading a finished tree", condition by condition over sets and maps; the search by halving and the walk that finds
-//! the vertices, on any tables; and what the program `counts` prints.
+//! Document 01, "Reading a finished tree", condition by condition over sets and maps; the way down by first children and the walk that
+//! finds the vertices, on any tables; and what the program `counts` prints.
 
-use super::build::{self, STATE_WORDS};
+use super::build::{self, STATE_WORDS, TABLES};
 use super::{
     cell, coordinates, corner_bit, every_third_bit, is_cell, is_finite, is_inner, level, power_of_8, side, vertex, Answer,
     DEEPEST,
 };
-use std::collections::{BTreeMap, BTreeSet};
+use std::collections::BTreeMap;
 
 /// A tree as it is given, sound or not. Distances are bits here, so that two NaNs can be told apart.
 #[derive(Clone, Debug, Default, PartialEq, Eq)]
 pub struct Tables {
     pub keys: Vec<u64>,
     pub distances: Vec<u32>,
+    pub firsts: Vec<u16>,
     pub leaves: Vec<u64>,
 }
 
@@ -51,9 +52,21 @@ fn children(key: u64) -> impl Iterator<Item = u64> {
     (0..8).map(move |which| 8 * key + which)
 }
 
+/// Where each key stands, at the first place if at several.
+fn places(keys: &[u64]) -> BTreeMap<u64, usize> {
+    keys.iter().enumerate().rev().map(|(place, &key)| (key, place)).collect()
+}
+
+/// For each key where its first child stands, and 0 where that isn't there; cut to 16 bits, as no sound tree needs.
+pub fn firsts_of(keys: &[u64]) -> Vec<u16> {
+    let places = places(keys);
+    let first = |key: &u64| key.checked_mul(8).and_then(|child| places.get(&child)).map_or(0, |&place| place as u16);
+    keys.iter().map(first).collect()
+}
+
 impl Tables {
     pub fn is_sound(&self) -> bool {
-        if self.keys.len() != self.distances.len() {
+        if self.keys.len() != self.distances.len() || self.keys.len() != self.firsts.len() {
             return false;
         }
         if !self.distances.iter().all(|&bits| is_finite(f32::from_bits(bits))) {
@@ -65,11 +78,16 @@ impl Tables {
         if !self.keys.iter().all(|&key| is_cell(key) && level(key) <= GREATEST_LEVEL) {
             return false;
         }
-        let present: BTreeSet<u64> = self.keys.iter().copied().collect();
-        let children_of = |key| children(key).filter(|child| present.contains(child)).count();
+        let present = places(&self.keys);
+        let children_of = |key| children(key).filter(|child| present.contains_key(child)).count();
         let without: Vec<u64> = self.keys.iter().copied().filter(|&key| children_of(key) == 0).collect();
-        self.keys.iter().all(|&key| key == 1 || present.contains(&(key / 8)))
+        let is_right = |(&key, &first): (&u64, &u16)| match present.get(&(8 * key)) {
+            Some(&place) => place == first as usize,
+            None => first == 0,
+        };
+        self.keys.iter().all(|&key| key == 1 || present.contains_key(&(key / 8)))
             && self.keys.iter().all(|&key| [0, 8].contains(&children_of(key)))
+            && self.keys.iter().zip(&self.firsts).all(is_right)
             && self.leaves == without
     }
 }
@@ -194,148 +212,117 @@ fn around(vertex: u64, level: u32, look_up: impl Fn(u64) -> Lookup) -> DualCell 
     cell
 }
 
-/// Where halving ends that looks for a key: the middle one is looked at, and it goes on behind that where it is less than the key,
-/// else before it, until nothing is left.
-fn halving_ends(keys: &[u64], key: u64) -> usize {
-    let middle = keys.len() / 2;
-    match keys.get(middle) {
-        None => 0,
-        Some(&there) if there < key => middle + 1 + halving_ends(&keys[middle + 1..], key),
-        Some(_) => halving_ends(&keys[..middle], key),
+/// The cells that the way down from the root comes to, each with its place: reading without a check, of tables that needn't hold a
+/// sound tree. A way by steps alone could go round for ever; but a step asks for the child's own key, so each place belongs to one cell.
+pub struct Descent<'a> {
+    distances: &'a [u32],
+    keys_length: usize,
+    cells: BTreeMap<u64, usize>,
+}
+
+impl Tables {
+    /// Where the step down from a cell leads that stands at a place: to eight places of the table, of which the first holds the cell's
+    /// first child.
+    fn step(&self, cell: u64, place: usize) -> Option<usize> {
+        let first = *self.firsts.get(place)? as usize;
+        let eight = self.keys.get(first..first + 8)?;
+        Some(first).filter(|_| first % 8 == 1 && eight[0] == 8 * cell)
+    }
+
+    pub fn descent(&self) -> Descent<'_> {
+        let mut cells = BTreeMap::new();
+        let mut to_go = vec![(1, 0)];
+        while let Some((cell, place)) = to_go.pop() {
+            cells.insert(cell, place);
+            // The deepest cells have no children's keys.
+            if let Some(first) = Some(cell).filter(|&cell| level(cell) < DEEPEST).and_then(|cell| self.step(cell, place)) {
+                to_go.extend(children(cell).zip(first..));
+            }
+        }
+        Descent { distances: &self.distances, keys_length: self.keys.len(), cells }
+    }
+
+    pub fn look_up_trusting(&self, key: u64) -> Answer<Lookup> {
+        self.descent().look_up_trusting(key)
+    }
+
+    pub fn dual_cell_trusting(&self, vertex: u64, level: u32) -> Answer<DualCell> {
+        self.descent().dual_cell_trusting(vertex, level)
+    }
+
+    /// Every vertex that the walk over the cells finds, with its level.
+    pub fn walked(&self) -> Vec<(u64, u32)> {
+        self.placed().iter().map(|at| (at.vertex, at.level)).collect()
+    }
+
+    /// The same with the places of the nodes round each.
+    pub fn placed(&self) -> Vec<Placed> {
+        let mut found = Vec::new();
+        self.descent().go_over(0, 1, &mut found);
+        found
     }
 }
 
-/// Reading without a check, of tables that needn't hold a sound tree.
-impl Tables {
-    /// The climb: the key and its ancestors of level 1 or more are tried, until one stands where halving for it ends. There are as
-    /// many nodes as both keys and distances.
-    fn climb(&self, asked: u64) -> Lookup {
-        let nodes = &self.keys[..self.keys.len().min(self.distances.len())];
-        for tried in 1..=level(asked) {
-            let key = asked >> (3 * (tried - 1));
-            let place = halving_ends(nodes, key);
-            if nodes.get(place) == Some(&key) {
-                return Lookup::Found { key, distance: self.distances[place], tried };
+impl Descent<'_> {
+    /// A step leads down from the cell: its children were come to.
+    fn is_split(&self, cell: u64) -> bool {
+        self.cells.contains_key(&(8 * cell))
+    }
+
+    /// The node over a cell: of the cell and those above it the first that was come to, with its place. The root always was.
+    fn over(&self, cell: u64) -> (u64, usize) {
+        self.cells.get(&cell).map_or_else(|| self.over(cell / 8), |&place| (cell, place))
+    }
+
+    /// The node over a key, but for the root.
+    fn find(&self, asked: u64) -> Lookup {
+        match self.over(asked) {
+            (1, _) => Lookup::Nothing { tried: level(asked) },
+            (key, place) => {
+                let distance = self.distances.get(place).copied().unwrap_or(0);
+                Lookup::Found { key, distance, tried: level(asked) - level(key) + 1 }
             }
         }
-        Lookup::Nothing { tried: level(asked) }
     }
 
     pub fn look_up_trusting(&self, key: u64) -> Answer<Lookup> {
         if !is_cell(key) {
             return Err(1);
         }
-        Ok(self.climb(key))
+        Ok(self.find(key))
     }
 
     pub fn dual_cell_trusting(&self, vertex: u64, level: u32) -> Answer<DualCell> {
-        if !is_inner(vertex, level) || self.keys.len() == 1 {
+        if !is_inner(vertex, level) || self.keys_length == 1 {
             return Err(4);
         }
-        Ok(around(vertex, level, |side| self.climb(side)))
+        Ok(around(vertex, level, |side| self.find(side)))
     }
 
-    /// Every vertex that the walk over the cells finds, with its level. It asks for the keys alone.
-    pub fn walked(&self) -> Vec<(u64, u32)> {
-        let mut found = Vec::new();
-        Walk { keys: &self.keys }.go_over(0, 1, &mut |vertex, level, _| found.push((vertex, level)));
-        found
-    }
-
-    /// The same with the places of the nodes round each.
-    pub fn placed(&self) -> Vec<Placed> {
-        let mut found = Vec::new();
-        Walk { keys: &self.keys }.go_over(0, 1, &mut |vertex, level, nodes| {
-            found.push(Placed { vertex, level, places: nodes.map(|node| self.place_of(node)) })
-        });
-        found
-    }
-
-    /// The place of a node: that of the first of the eight children to whom it belongs, and its number among them.
-    fn place_of(&self, node: u64) -> usize {
-        halving_ends(&self.keys, 8 * (node / 8)) + (node % 8) as usize
-    }
-}
-
-/// The walk over the cells from the root down, in the words of crates/vertices/specs/Walk.antt. Each cell finds the nodes round its low
-/// corner from the root on again: what a parent found isn't handed down.
-struct Walk<'a> {
-    keys: &'a [u64],
-}
-
-impl Walk<'_> {
-    fn stands(&self, place: usize, key: u64) -> bool {
-        self.keys.get(place) == Some(&key)
-    }
-
-    /// Where the children of a node's child would stand. Halving tells it of the first child, and each child before takes eight
-    /// places if its children stand where they would.
-    fn children_at(&self, node: u64, which: u64) -> usize {
-        if which == 0 {
-            return halving_ends(self.keys, 64 * node);
-        }
-        let before = self.children_at(node, which - 1);
-        let taken = self.stands(before, 8 * (8 * node + which - 1));
-        before + if taken { 8 } else { 0 }
-    }
-
-    /// The root is split where its first child stands; any other node too, if the last key is no less than its parent's first grandchild
-    /// could be.
-    fn is_split(&self, node: u64) -> bool {
-        if node == 1 {
-            return self.stands(halving_ends(self.keys, 8), 8);
-        }
-        let reached = self.keys.last().map_or(0, |&last| last) >= 64 * (node / 8);
-        reached && self.stands(self.children_at(node / 8, node % 8), 8 * node)
-    }
-
-    /// Whether a node has the level or a deeper one, and is split.
-    fn is_split_at(&self, level: u32, node: u64) -> bool {
-        is_of_level(level, node) && self.is_split(node)
-    }
-
-    /// The node over a cell of the level: the cell itself if its parent is a split node, else the node over the parent.
-    fn over(&self, level: u32, cell: u64) -> u64 {
-        if level == 0 {
-            return cell;
-        }
-        let above = self.over(level - 1, cell / 8);
-        if self.is_split_at(level - 1, above) {
-            cell
-        } else {
-            above
-        }
-    }
-
-    /// The node over the cell that is lower on the axes of a corner's bits; 0 outside the cube.
-    fn entry(&self, level: u32, of: u64, corner: u32) -> u64 {
+    /// The node over the cell that is lower on the axes of a corner's bits; none outside the cube.
+    fn entry(&self, level: u32, of: u64, corner: u32) -> Option<(u64, usize)> {
         let mut at = coordinates(of, level);
         for (axis, c) in at.iter_mut().enumerate() {
-            match c.checked_sub(corner_bit(corner, axis)) {
-                Some(lower) => *c = lower,
-                None => return 0,
-            }
+            *c = c.checked_sub(corner_bit(corner, axis))?;
         }
-        self.over(level, cell(level, at))
+        Some(self.over(cell(level, at)))
     }
 
-    /// Goes into the children of a cell with a split entry, down to the limit. Else it ends: the cell's low corner is found if all
-    /// entries are nodes and one has the cell's own level.
-    fn go_over(&self, level: u32, cell: u64, found: &mut dyn FnMut(u64, u32, [u64; 8])) {
-        let entries = [0, 1, 2, 3, 4, 5, 6, 7].map(|corner| self.entry(level, cell, corner));
-        if entries.iter().any(|&entry| self.is_split_at(level, entry)) {
-            if level < GREATEST_LEVEL {
-                children(cell).for_each(|child| self.go_over(level + 1, child, found));
+    /// The walk over the cells from the root down, in the words of crates/vertices/specs/Walk.antt. It goes into the children of a cell
+    /// with a split entry of its own level, down to the limit. Else it ends: the cell's low corner is found if all entries are nodes and
+    /// one has the cell's own level. What a parent found isn't handed down.
+    fn go_over(&self, at: u32, cell: u64, found: &mut Vec<Placed>) {
+        let entries = [0, 1, 2, 3, 4, 5, 6, 7].map(|corner| self.entry(at, cell, corner));
+        let mut of_level = entries.iter().flatten().filter(|&&(key, _)| level(key) == at);
+        if of_level.clone().any(|&(key, _)| self.is_split(key)) {
+            if at < GREATEST_LEVEL {
+                children(cell).for_each(|child| self.go_over(at + 1, child, found));
             }
-        } else if entries.iter().all(|&entry| entry > 0) && entries.iter().any(|&entry| is_of_level(level, entry)) {
-            found(cell * power_of_8(DEEPEST - level) as u64, level, entries);
+        } else if entries.iter().all(Option::is_some) && of_level.next().is_some() {
+            let places = entries.map(|entry| entry.map_or(0, |(_, place)| place));
+            found.push(Placed { vertex: cell * power_of_8(DEEPEST - at) as u64, level: at, places });
         }
     }
-}
-
-/// Whether a number has the level or a deeper one.
-fn is_of_level(level: u32, number: u64) -> bool {
-    power_of_8(level) <= number as u128
 }
 
 impl Sound {
@@ -379,7 +366,7 @@ pub fn counts(input: &[u8]) -> String {
 fn counted(input: &[u8]) -> Option<Answer<[usize; 3]>> {
     let (&bound, input) = input.split_first()?;
     let mut distances = input.chunks_exact(4).map(|bytes| f32::from_le_bytes([bytes[0], bytes[1], bytes[2], bytes[3]]));
-    let (mut state, mut tables) = ([0; STATE_WORDS], build::Tables::of([COUNTS_ROOM; 4]));
+    let (mut state, mut tables) = ([0; STATE_WORDS], build::Tables::of([COUNTS_ROOM; TABLES]));
     if let Err(number) = build::start(bound as u32, &tables, &mut state) {
         return Some(Err(number));
     }
@@ -396,9 +383,14 @@ fn counted(input: &[u8]) -> Option<Answer<[usize; 3]>> {
 }
 
 impl Tables {
-    /// The tree of a finished build: the first n keys and distances and the first m leaves.
+    /// The tree of a finished build: the first n keys, distances and first children, and the first m leaves.
     pub fn finished(state: &[u64; STATE_WORDS], tables: &build::Tables) -> Self {
         let (n, m) = (state[1] as usize, state[2] as usize);
-        Tables { keys: tables.keys[..n].to_vec(), distances: tables.distances[..n].to_vec(), leaves: tables.leaves[..m].to_vec() }
+        Tables {
+            keys: tables.keys[..n].to_vec(),
+            distances: tables.distances[..n].to_vec(),
+            firsts: tables.firsts[..n].to_vec(),
+            leaves: tables.leaves[..m].to_vec(),
+        }
     }
 }

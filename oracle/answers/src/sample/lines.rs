@@ -9,6 +9,11 @@ pub struct Sample {
     pub text: String,
 }
 
+/// Four numbers in a word, 16 bits each, the first in the lowest.
+pub fn packed(numbers: [usize; 4]) -> u64 {
+    numbers.iter().rev().fold(0, |word, &number| word << 16 | number as u64)
+}
+
 impl Sample {
     pub fn line(&mut self, call: u8, [a, b, c]: [u64; 3], answer: Answer<[u64; 3]>) {
         let (refusal, [x, y, z]) = match answer {

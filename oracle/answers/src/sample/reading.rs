@@ -1,25 +1,25 @@
-//! Reading in the sample. Put lines write a tree into three tables of 1,024, which begin with zeros, and the lines after them lend
+//! Reading in the sample. Put lines write a tree into four tables of 1,024, which begin with zeros, and the lines after them lend
 //! the first places, as many as each says:
 //!
 //! | OP | A | B | C | X | Y | Z |
 //! |---|---|---|---|---|---|---|
-//! | 10 put | place, distance | key | leaf | | | |
+//! | 10 put | place, first child, distance | key | leaf | | | |
 //! | 11 sound | lengths | | | 1 or 0 | | |
 //! | 12 look_up | lengths | key | | key found | its distance | keys tried |
 //! | 13 list | lengths | start | both lengths | count | | |
 //! | 14 listed | place | | | vertex | level | |
-//! | 15 dual_cell | lengths, corner | vertex | level | key of the corner | its distance | keys tried for all eight |
+//! | 15 dual_cell | lengths | vertex | level, corner | key of the corner | its distance | keys tried for all eight |
 //! | 16 slab | vertex | level | exponent | slab | | |
 //!
-//! Put writes one place of keys, distances and leaves; the distance stands in A's high half. Lengths are those of keys, distances and
-//! leaves in 16 bits each from the lowest on, with the corner above them. A list line sets every place of a vertex table and a level
-//! table of 1,024 to 0, and lends as many as C says, 16 bits each; a listed line tells what then stands at a place of both. A lookup
-//! that answers nothing has key and distance 0.
+//! Put writes one place of keys, distances, first children and leaves; the place and that of the first child have 16 bits each, and the
+//! distance stands in A's high half, as the corner does in C's. Lengths are those of keys, distances, first children and leaves in 16
+//! bits each from the lowest on. A list line sets every place of a vertex table and a level table of 1,024 to 0, and lends as many as C
+//! says, 16 bits each; a listed line tells what then stands at a place of both. A lookup that answers nothing has key and distance 0.
 
-use super::lines::Sample;
+use super::lines::{packed, Sample};
 use crate::inputs::{first_cell, last_cell, BROKEN_DISTANCES, GREATEST_DISTANCES};
 use crate::integer;
-use crate::model::reading::{slab, Lookup, Reading, Tables};
+use crate::model::reading::{firsts_of, slab, Lookup, Reading, Tables};
 use crate::model::{level, vertex};
 
 const PUT: u8 = 0x10;
@@ -43,7 +43,7 @@ fn tree(split: &[u64]) -> Tables {
     let odd = [0x8000_0000, 0x7f7f_ffff, 0, 1, 0x007f_ffff, 0x8080_0000, 0x8000_0001, 0xff7f_ffff];
     let distance = |place: usize| odd.get(place).copied().unwrap_or_else(|| (place as f32 - 40.5).to_bits());
     let leaves = keys.iter().copied().filter(|key| !split.contains(key)).collect();
-    Tables { distances: (0..keys.len()).map(distance).collect(), keys, leaves }
+    Tables { distances: (0..keys.len()).map(distance).collect(), firsts: firsts_of(&keys), keys, leaves }
 }
 
 /// The cells above a cell, the root first.
@@ -53,22 +53,24 @@ fn above(end: u64) -> Vec<u64> {
 
 /// The tree in the tables, and the lengths that are lent of it.
 struct Put {
-    lengths: [usize; 3],
+    lengths: [usize; 4],
     tables: Tables,
 }
 
 impl Put {
     /// A tree that is lent whole.
     fn whole(tables: Tables) -> Self {
-        Put { lengths: [tables.keys.len(), tables.distances.len(), tables.leaves.len()], tables }
+        let lengths = [tables.keys.len(), tables.distances.len(), tables.firsts.len(), tables.leaves.len()];
+        Put { lengths, tables }
     }
 
     /// What is lent.
     fn lent(&self) -> Tables {
-        let [keys, distances, leaves] = self.lengths;
+        let [keys, distances, firsts, leaves] = self.lengths;
         Tables {
             keys: self.tables.keys[..keys].to_vec(),
             distances: self.tables.distances[..distances].to_vec(),
+            firsts: self.tables.firsts[..firsts].to_vec(),
             leaves: self.tables.leaves[..leaves].to_vec(),
         }
     }
@@ -78,15 +80,16 @@ impl Put {
     }
 
     fn packed(&self) -> u64 {
-        self.lengths.iter().rev().fold(0, |word, &length| word << 16 | length as u64)
+        packed(self.lengths)
     }
 
     /// The same places, lent in other lengths: each more or less by so many.
-    fn of_lengths(&self, more: [isize; 3]) -> Self {
+    fn of_lengths(&self, more: [isize; 4]) -> Self {
         let mut tables = self.tables.clone();
         // What was never put is 0, and so the sample asks for no place that an earlier tree has written.
         tables.keys.push(0);
         tables.distances.push(0);
+        tables.firsts.push(0);
         tables.leaves.push(0);
         let mut lengths = self.lengths;
         for (length, more) in lengths.iter_mut().zip(more) {
@@ -100,14 +103,15 @@ impl Sample {
     fn put_at(&mut self, put: &Put, place: usize) {
         let at = |table: &[u64]| table.get(place).copied().unwrap_or(0);
         let distance = put.tables.distances.get(place).copied().unwrap_or(0);
-        let a = place as u64 | (distance as u64) << 32;
+        let first = put.tables.firsts.get(place).copied().unwrap_or(0);
+        let a = place as u64 | (first as u64) << 16 | (distance as u64) << 32;
         self.line(PUT, [a, at(&put.tables.keys), at(&put.tables.leaves)], Ok([0; 3]));
     }
 
     /// Writes a tree, and zeros behind it.
     fn put(&mut self, tables: Tables) -> Put {
         let put = Put::whole(tables);
-        for place in 0..=put.lengths[0].max(put.lengths[2]) {
+        for place in 0..=put.lengths[0] {
             self.put_at(&put, place);
         }
         put
@@ -155,6 +159,15 @@ impl Sample {
         answer.is_ok()
     }
 
+    /// Lists into tables with room for 19 vertices of each split, which a list may fill in one pass, with one place less, and with more.
+    fn list_in_one_pass(&mut self, put: &Put, start: usize) {
+        let (bound, listed) = (start + 19 * (put.lengths[0] / 8), put.reading().vertices().expect("a sound tree").len());
+        let ends = [0, start, start + listed - 1, start + listed, bound - 2, bound - 1, bound];
+        for lengths in [[bound, bound], [bound - 1, bound], [bound, bound - 1], [bound, bound + 9]] {
+            assert!(self.list(put, start, lengths, ends.into_iter()));
+        }
+    }
+
     fn dual_cell(&mut self, put: &Put, vertex: u64, level: u32, corners: impl Iterator<Item = usize>) -> bool {
         let answer = put.reading().dual_cell(vertex, level);
         if let Ok(cell) = answer {
@@ -165,7 +178,7 @@ impl Sample {
         }
         for corner in corners {
             let eight = answer.map(|cell| [cell.keys[corner], cell.distances[corner] as u64, cell.tried as u64]);
-            self.line(DUAL_CELL, [put.packed() | (corner as u64) << 48, vertex, level as u64], eight);
+            self.line(DUAL_CELL, [put.packed(), vertex, level as u64 | (corner as u64) << 32], eight);
         }
         answer.is_ok()
     }
@@ -186,7 +199,18 @@ impl Sample {
     fn least_trees(&mut self) {
         let root = self.put(tree(&[]));
         assert!(self.sound(&root));
-        for more in [[-1, 0, 0], [0, -1, 0], [0, 0, -1], [-1, -1, -1], [-1, -1, 0], [1, 1, 0], [1, 1, 1], [0, 0, 1]] {
+        for more in [
+            [-1, 0, 0, 0],
+            [0, -1, 0, 0],
+            [0, 0, -1, 0],
+            [0, 0, 1, 0],
+            [0, 0, 0, -1],
+            [-1, -1, -1, -1],
+            [-1, -1, -1, 0],
+            [1, 1, 1, 0],
+            [1, 1, 1, 1],
+            [0, 0, 0, 1],
+        ] {
             let other = root.of_lengths(more);
             assert!(!self.sound(&other));
             self.look_up(&other, 16);
@@ -210,6 +234,7 @@ impl Sample {
         {
             assert_eq!(self.list(&nine, start, lengths, 0..3), fits);
         }
+        self.list_in_one_pass(&nine, 2);
         assert!(self.dual_cell(&nine, MIDDLE, 1, 0..8) && self.dual_cell(&nine, MIDDLE, 20, [0, 7].into_iter()));
         assert!(!self.dual_cell(&nine, MIDDLE, 21, [0].into_iter()) && !self.dual_cell(&nine, 1 << 63, 1, [0].into_iter()));
         // Each condition of a sound tree at one place.
@@ -229,6 +254,19 @@ impl Sample {
         for bits in BROKEN_DISTANCES {
             self.broken_at(&nine, 4, bits);
         }
+        // The root's first child has another place, is none, or is behind the table; a leaf has one.
+        for (place, first) in [(0, 0), (0, 2), (0, 9), (0, u16::MAX), (1, 1), (1, 9), (8, 1), (8, 8)] {
+            self.astray_at(&nine, place, first);
+        }
+    }
+
+    /// A wrong first child at one place: no call that checks the tree reads it.
+    fn astray_at(&mut self, put: &Put, place: usize, first: u16) {
+        let changed = self.change(put, place, |tables| tables.firsts[place] = first);
+        assert!(!self.sound(&changed));
+        self.look_up(&changed, 64);
+        assert!(!self.list(&changed, 0, [0, 0], [].into_iter()) && !self.dual_cell(&changed, MIDDLE, 1, [0].into_iter()));
+        self.put_at(put, place);
     }
 
     /// A distance that isn't finite at one place: no call that checks the tree reads it. With the greatest distances there it is sound
@@ -253,6 +291,7 @@ impl Sample {
         for (start, lengths) in [(0, [33, 34]), (0, [34, 33]), (6, [39, 50]), (6, [50, 39]), (usize::MAX - 33, [34, 34])] {
             assert!(!self.list(&put, start, lengths, [0, 33].into_iter()));
         }
+        self.list_in_one_pass(&put, 0);
         for (vertex, level) in [(corner(519, 7), 3), (corner(512, 7), 3), (MIDDLE, 1), (MIDDLE, 2), (corner(65, 6), 2)] {
             assert!(self.dual_cell(&put, vertex, level, 0..8));
         }
@@ -260,7 +299,8 @@ impl Sample {
         for key in [64, 512, 519, 65, 520, 8 * 519 + 3, 1, 9, 127, last_cell(20), first_cell(20), 128] {
             self.look_up(&put, key);
         }
-        for more in [[0, 0, -1], [-1, -1, -1], [-8, -8, -8], [0, -1, 0], [1, 1, 1]] {
+        for more in [[0, 0, 0, -1], [-1, -1, -1, -1], [-8, -8, -8, -8], [0, -1, 0, 0], [0, 0, -1, 0], [0, 0, 1, 0], [1, 1, 1, 1]]
+        {
             let other = put.of_lengths(more);
             assert!(!self.sound(&other));
             self.look_up(&other, 64);
@@ -269,6 +309,13 @@ impl Sample {
         for (place, bits) in [0, 9, 40, 80].into_iter().zip(BROKEN_DISTANCES) {
             self.broken_at(&put, place, bits);
         }
+        // Of split nodes one place on or back, none, or that of another; of leaves that of a split node, or where theirs would stand.
+        for (place, first) in
+            [(0, 9), (1, 8), (1, 10), (1, 0), (1, 17), (8, 57), (8, 73), (9, 1), (9, 72), (9, 81), (10, 73), (72, 81), (80, 81)]
+        {
+            self.astray_at(&put, place, first);
+        }
+        assert!(self.sound(&put));
     }
 
     /// A path down to level 15; one level more isn't sound.
@@ -281,6 +328,7 @@ impl Sample {
         }
         let listed = put.reading().vertices().expect("a sound tree");
         assert!(self.list(&put, 1, [listed.len() + 1, listed.len() + 2], (0..listed.len() + 3).step_by(7)));
+        self.list_in_one_pass(&put, 3);
         for &(vertex, level) in [listed.first(), listed.last()].into_iter().flatten() {
             assert!(self.dual_cell(&put, vertex, level, [0, 3, 7].into_iter()));
             self.dual_cell(&put, vertex, 20, [5].into_iter());
@@ -289,8 +337,9 @@ impl Sample {
         split.push(end);
         let deeper = Put::whole(tree(&split));
         for place in 0..=deeper.lengths[0] {
-            let at = |table: &[u64]| table.get(place).copied();
-            if at(&deeper.tables.keys) != at(&put.tables.keys) || at(&deeper.tables.leaves) != at(&put.tables.leaves) {
+            let key = |put: &Put| [put.tables.keys.get(place).copied(), put.tables.leaves.get(place).copied()];
+            let first = |put: &Put| put.tables.firsts.get(place).copied();
+            if key(&deeper) != key(&put) || first(&deeper) != first(&put) {
                 self.put_at(&deeper, place);
             }
         }
