@@ -77,15 +77,18 @@ uint32_t mittenhelm_side(uint64_t vertex, uint32_t level, uint32_t which, uint64
  * takes, or of a level above 21, which no cell has: false. */
 bool mittenhelm_should_refine(uint32_t level, uint32_t bound, float distance);
 
-/* A build asks for one distance at a time. The caller owns its state, eight words, and lends it four tables: the nodes'
- * keys, the nodes' distances, the leaves' keys and a queue, which is a ring of cells that wait. Between two calls the caller
- * keeps state and tables as the last accepted call left them; a copy of all five can be brought back later, anywhere.
+/* A build asks for one distance at a time. The caller owns its state, nine words, and lends it five tables: the nodes'
+ * keys, the nodes' distances, the place of each node's first child, the leaves' keys and a queue, which is a ring of cells that
+ * wait. Between two calls the caller keeps state and tables as the last accepted call left them; a copy of all six can be brought
+ * back later, anywhere.
  *
- * Node room is the shorter of the first two lengths, at most 4,096. A queue shorter than 64 places lets no build finish.
+ * Node room is the shortest of the first three lengths, at most 4,096. A queue shorter than 64 places lets no build finish.
  * Room for n nodes, with (7n + 1)/8 places, rounded down, for the leaves and as many for the queue, refuses no build that ends
  * within n nodes. Both are proved (crates/demands/specs/Rooms.antt).
  *
- * A finished tree has its n keys and n distances in the first places, and so its m leaves; keys and leaves ascend. */
+ * A finished tree has its n keys, n distances and n first children in the first places, and so its m leaves; keys and leaves
+ * ascend. The eight children of a node stand side by side, the first of them at the place that stands beside their parent's key;
+ * beside a leaf's key stands 0. */
 enum mittenhelm_state {
     MITTENHELM_STATE_BOUND = 0,            /* the depth bound of the start */
     MITTENHELM_STATE_NODES = 1,            /* how many nodes there are so far: n */
@@ -93,16 +96,18 @@ enum mittenhelm_state {
     MITTENHELM_STATE_ASKED = 3,            /* the key whose distance is asked for; 0: none, the build is finished */
     MITTENHELM_STATE_KEYS_LENGTH = 4,      /* the lengths that the tables had at the start */
     MITTENHELM_STATE_DISTANCES_LENGTH = 5,
-    MITTENHELM_STATE_LEAVES_LENGTH = 6,
-    MITTENHELM_STATE_QUEUE_LENGTH = 7,
-    MITTENHELM_STATE_WORDS = 8             /* how many words a state has */
+    MITTENHELM_STATE_FIRSTS_LENGTH = 6,
+    MITTENHELM_STATE_LEAVES_LENGTH = 7,
+    MITTENHELM_STATE_QUEUE_LENGTH = 8,
+    MITTENHELM_STATE_WORDS = 9             /* how many words a state has */
 };
 
 /* Begins a build: writes the state, and asks for the root by its key, centre and half size; no table is read or written.
- * Refusals 5, 10 (other than eight words are no state). */
+ * Refusals 5, 10 (other than nine words are no state). */
 uint32_t mittenhelm_start(uint32_t bound,
     const uint64_t *keys, size_t keys_length, const float *distances, size_t distances_length,
-    const uint64_t *leaves, size_t leaves_length, const uint64_t *queue, size_t queue_length,
+    const uint16_t *firsts, size_t firsts_length, const uint64_t *leaves, size_t leaves_length,
+    const uint64_t *queue, size_t queue_length,
     uint64_t *state, size_t state_length,
     uint64_t *key, float *x, float *y, float *z, float *half);
 
@@ -110,40 +115,44 @@ uint32_t mittenhelm_start(uint32_t bound,
  * left, the state's asked key is 0 and the last five places stay as they were. Refusals 10, 9, 16, 6, then 7 or 8. */
 uint32_t mittenhelm_distance(uint64_t *state, size_t state_length,
     uint64_t *keys, size_t keys_length, float *distances, size_t distances_length,
-    uint64_t *leaves, size_t leaves_length, uint64_t *queue, size_t queue_length,
+    uint16_t *firsts, size_t firsts_length, uint64_t *leaves, size_t leaves_length,
+    uint64_t *queue, size_t queue_length,
     float distance,
     uint64_t *key, float *x, float *y, float *z, float *half);
 
-/* A finished tree is read from three tables that the caller owns and that no call changes: its keys, as many distances, and its
- * leaves, each exactly as long as the tree. Of a finished build with n nodes and m leaves these are the first n keys, the first n
- * distances and the first m leaves. A tree from elsewhere may have more than 4,096 nodes, and is read if it is sound: as many
- * keys as distances; no distance infinite or NaN; keys strictly ascending, first 1, all cell keys of level at most 15; each other
- * key's parent present; each key with all eight children or none; the leaves being exactly the keys with none, ascending. */
+/* A finished tree is read from four tables that the caller owns and that no call changes: its keys, as many distances, as many
+ * first children, and its leaves, each exactly as long as the tree. Of a finished build with n nodes and m leaves these are the
+ * first n places of the first three and the first m leaves. A tree from elsewhere may have more than 4,096 nodes, and is read if it
+ * is sound: as many keys as distances and as first children; no distance infinite or NaN; keys strictly ascending, first 1, all
+ * cell keys of level at most 15; each other key's parent present; each key with all eight children or none; beside each key the
+ * place at which its first child stands, or 0 where it has none; the leaves being exactly the keys with none, ascending. A place has
+ * 16 bits, so no sound tree has more than 65,537 nodes (`sound-few`). */
 
 /* Whether the tables hold a sound tree. */
 bool mittenhelm_sound(
     const uint64_t *keys, size_t keys_length, const float *distances, size_t distances_length,
-    const uint64_t *leaves, size_t leaves_length);
+    const uint16_t *firsts, size_t firsts_length, const uint64_t *leaves, size_t leaves_length);
 
 /* Finds the deepest present of a cell key and its ancestors of level 1 or more, with its distance, and says how many keys were
  * tried; where none is present, the key found and the distance are 0. Refusals 11, 1. */
 uint32_t mittenhelm_look_up(
     const uint64_t *keys, size_t keys_length, const float *distances, size_t distances_length,
-    const uint64_t *leaves, size_t leaves_length,
+    const uint16_t *firsts, size_t firsts_length, const uint64_t *leaves, size_t leaves_length,
     uint64_t key, uint64_t *found, float *distance, uint32_t *tried);
 
 /* Writes the tree's vertices, ascending and each with its level, from place `start` on into two tables that the caller owns, and
- * their number to `count`; a start equal to a table's length isn't past its end. Refusals 11, 12. */
+ * their number to `count`; a start equal to a table's length isn't past its end. A tree of s splits, and so of 8s + 1 nodes, has at
+ * most 19s: where both tables have so many places from `start` on, it is gone over once, else twice, to count first. Refusals 11, 12. */
 uint32_t mittenhelm_list(
     const uint64_t *keys, size_t keys_length, const float *distances, size_t distances_length,
-    const uint64_t *leaves, size_t leaves_length,
+    const uint16_t *firsts, size_t firsts_length, const uint64_t *leaves, size_t leaves_length,
     size_t start, uint64_t *vertices, size_t vertices_length, uint8_t *levels, size_t levels_length, size_t *count);
 
 /* Looks up the cells of the level on the eight sides of an inner vertex: writes eight keys and eight distances, in corner order,
  * to places that the caller owns, and the number of keys tried for all eight. Refusals 11, 4. */
 uint32_t mittenhelm_dual_cell(
     const uint64_t *keys, size_t keys_length, const float *distances, size_t distances_length,
-    const uint64_t *leaves, size_t leaves_length,
+    const uint16_t *firsts, size_t firsts_length, const uint64_t *leaves, size_t leaves_length,
     uint64_t vertex, uint32_t level, uint64_t *cell_keys /* [8] */, float *cell_distances /* [8] */, uint32_t *tried);
 
 /* The slab in which the dual cell of an inner vertex at a level lies, of 2^exponent slabs (0 to 15) along z: that of its vertex.
@@ -151,36 +160,44 @@ uint32_t mittenhelm_dual_cell(
 uint32_t mittenhelm_slab(uint64_t vertex, uint32_t level, uint32_t exponent, uint32_t *slab);
 
 /* Each call above that reads a tree first goes over all of it, to see that it is sound. A host that reads much checks once with
- * mittenhelm_sound, keeps the tables as they are, and then calls these, which are given no leaves and look only at the keys
- * that they search among. Of a sound tree each answers exactly as the call above that it is named for; mittenhelm_cells_trusting,
- * which has none, goes over the list's vertices. They never refuse 11: of tables that hold no sound tree, of whatever lengths,
- * they answer what the same search by halving comes to, among as many nodes as there are both keys and distances, or among all
- * keys where no distances are given. */
+ * mittenhelm_sound, keeps the tables as they are, and then calls these, each of which is given only the tables that it reads. Of a
+ * sound tree each answers exactly as the call above that it is named for; mittenhelm_cells_trusting, which has none, goes over the
+ * list's vertices.
+ *
+ * They never refuse 11. Of tables that hold no sound tree, of whatever lengths, they answer what the way down from the root comes
+ * to. The root has key 1 and place 0, whatever stands there. A step down from the cell with key k at place p needs three things of
+ * the number f at place p of the first children (0 past their end): it is one more than a multiple of 8, eight keys stand from place f
+ * on, and the first of them is 8k. Child c then has key 8k + c and place f + c, whatever key stands there. So each eight places have
+ * one parent, and the way down ends on any tables: of n keys, the cells that a walk goes through are linear in n (`steps-linear`), and
+ * it lists at most 19 vertices for each eight keys after the first (`vertices-linear`). */
 
-/* As mittenhelm_look_up of a tree that was checked before. Refusal 1. */
+/* As mittenhelm_look_up of a tree that was checked before; the distance of a place past the end of their table is 0. Refusal 1. */
 uint32_t mittenhelm_look_up_trusting(
     const uint64_t *keys, size_t keys_length, const float *distances, size_t distances_length,
+    const uint16_t *firsts, size_t firsts_length,
     uint64_t key, uint64_t *found, float *distance, uint32_t *tried);
 
-/* As mittenhelm_list of a tree that was checked before, of which the keys alone are given. Refusal 12. */
+/* As mittenhelm_list of a tree that was checked before, of which the keys and first children are given. Refusal 12. */
 uint32_t mittenhelm_list_trusting(
-    const uint64_t *keys, size_t keys_length,
+    const uint64_t *keys, size_t keys_length, const uint16_t *firsts, size_t firsts_length,
     size_t start, uint64_t *vertices, size_t vertices_length, uint8_t *levels, size_t levels_length, size_t *count);
 
 /* Writes the vertices that are no less than `from`, ascending and each with its level, as many as have room in all three tables,
  * and answers how many; `places` takes eight for each: where in keys and distances the nodes of its dual cell stand, in corner
- * order (of a tree that isn't sound, perhaps past the end). A host with room for one at least begins with `from` 0, goes on with
- * the last vertex + 1, and is done when fewer came than have room: that it then has each vertex once, of any keys at all, is proved
- * (crates/demands/specs/Batches.antt). No refusal. */
+ * order. A place is below the number of keys, or 0, of any tables. A host with room for one at least begins with `from` 0, goes on
+ * with the last vertex + 1, and is done when fewer came than have room: that it then has each vertex once, of any tables at all, is
+ * proved (crates/demands/specs/Batches.antt). No refusal. */
 size_t mittenhelm_cells_trusting(
-    const uint64_t *keys, size_t keys_length,
+    const uint64_t *keys, size_t keys_length, const uint16_t *firsts, size_t firsts_length,
     uint64_t from, uint64_t *vertices, size_t vertices_length, uint8_t *levels, size_t levels_length,
     size_t *places, size_t places_length);
 
 /* As mittenhelm_dual_cell of a tree that was checked before; a side for which nothing is found, as there is none in a sound tree,
- * gives the key 0 and the distance 0. Refusal 4, also where there is one key, which is the root alone. */
+ * gives the key 0 and the distance 0, and the distance of a place past the end of their table is 0. Refusal 4, also where there is one
+ * key, which is the root alone. */
 uint32_t mittenhelm_dual_cell_trusting(
     const uint64_t *keys, size_t keys_length, const float *distances, size_t distances_length,
+    const uint16_t *firsts, size_t firsts_length,
     uint64_t vertex, uint32_t level, uint64_t *cell_keys /* [8] */, float *cell_distances /* [8] */, uint32_t *tried);
 
 #ifdef __cplusplus

@@ -30,6 +30,8 @@ pub mod raw {
             keys_length: usize,
             distances: *const f32,
             distances_length: usize,
+            firsts: *const u16,
+            firsts_length: usize,
             leaves: *const u64,
             leaves_length: usize,
             queue: *const u64,
@@ -49,6 +51,8 @@ pub mod raw {
             keys_length: usize,
             distances: *mut f32,
             distances_length: usize,
+            firsts: *mut u16,
+            firsts_length: usize,
             leaves: *mut u64,
             leaves_length: usize,
             queue: *mut u64,
@@ -65,6 +69,8 @@ pub mod raw {
             keys_length: usize,
             distances: *const f32,
             distances_length: usize,
+            firsts: *const u16,
+            firsts_length: usize,
             leaves: *const u64,
             leaves_length: usize,
         ) -> u8;
@@ -73,6 +79,8 @@ pub mod raw {
             keys_length: usize,
             distances: *const f32,
             distances_length: usize,
+            firsts: *const u16,
+            firsts_length: usize,
             leaves: *const u64,
             leaves_length: usize,
             key: u64,
@@ -85,6 +93,8 @@ pub mod raw {
             keys_length: usize,
             distances: *const f32,
             distances_length: usize,
+            firsts: *const u16,
+            firsts_length: usize,
             leaves: *const u64,
             leaves_length: usize,
             start: usize,
@@ -99,6 +109,8 @@ pub mod raw {
             keys_length: usize,
             distances: *const f32,
             distances_length: usize,
+            firsts: *const u16,
+            firsts_length: usize,
             leaves: *const u64,
             leaves_length: usize,
             vertex: u64,
@@ -113,6 +125,8 @@ pub mod raw {
             keys_length: usize,
             distances: *const f32,
             distances_length: usize,
+            firsts: *const u16,
+            firsts_length: usize,
             key: u64,
             found: &mut u64,
             distance: &mut f32,
@@ -121,6 +135,8 @@ pub mod raw {
         pub fn mittenhelm_list_trusting(
             keys: *const u64,
             keys_length: usize,
+            firsts: *const u16,
+            firsts_length: usize,
             start: usize,
             vertices: *mut u64,
             vertices_length: usize,
@@ -131,6 +147,8 @@ pub mod raw {
         pub fn mittenhelm_cells_trusting(
             keys: *const u64,
             keys_length: usize,
+            firsts: *const u16,
+            firsts_length: usize,
             from: u64,
             vertices: *mut u64,
             vertices_length: usize,
@@ -144,6 +162,8 @@ pub mod raw {
             keys_length: usize,
             distances: *const f32,
             distances_length: usize,
+            firsts: *const u16,
+            firsts_length: usize,
             vertex: u64,
             level: u32,
             cell_keys: &mut [u64; 8],
@@ -279,6 +299,8 @@ pub struct Tables<'a> {
     pub keys: &'a mut [u64],
     /// The nodes' distances, as they were given: one place for each node.
     pub distances: &'a mut [f32],
+    /// The place of each node's first child, 0 for a leaf: one place for each node.
+    pub firsts: &'a mut [u16],
     /// The leaves' keys, ascending: one place for each leaf.
     pub leaves: &'a mut [u64],
     /// The cells that wait to be asked for, in a ring: at least 64 places, or no build finishes.
@@ -293,9 +315,12 @@ pub struct Request {
     pub half: f32,
 }
 
-/// Where a build stands: eight words, which a caller may keep and bring back with the tables. Words that don't fit are refused.
+/// How many words a state has.
+pub const STATE_WORDS: usize = 9;
+
+/// Where a build stands: words that a caller may keep and bring back with the tables. Words that don't fit are refused.
 #[derive(Clone, Copy, Debug, PartialEq, Eq, Hash)]
-pub struct State(pub [u64; 8]);
+pub struct State(pub [u64; STATE_WORDS]);
 
 impl State {
     /// The depth bound of the start.
@@ -319,7 +344,7 @@ impl State {
         Some(self.0[3]).filter(|&key| key != 0)
     }
 
-    /// The tree that a finished build left in its tables: the first keys, distances and leaves, as many as there are. None, where a
+    /// The tree that a finished build left in its tables: the first places of each, as many as there are nodes or leaves. None, where a
     /// cell is still asked for or the tables are shorter.
     pub fn tree<'a>(&self, tables: &'a Tables) -> Option<Tree<'a>> {
         if self.asked().is_some() {
@@ -329,6 +354,7 @@ impl State {
         Some(Tree {
             keys: tables.keys.get(..nodes)?,
             distances: tables.distances.get(..nodes)?,
+            firsts: tables.firsts.get(..nodes)?,
             leaves: tables.leaves.get(..leaves)?,
         })
     }
@@ -337,7 +363,7 @@ impl State {
 /// Begins a build of a depth bound (0 to 15) in the tables, none of which is read or written yet, and asks for the root.
 #[inline]
 pub fn start(bound: u32, tables: &Tables) -> Result<(State, Request), Refusal> {
-    let mut state = [0; 8];
+    let mut state = [0; STATE_WORDS];
     let (mut key, [mut x, mut y, mut z, mut half]) = (0, [0.0; 4]);
     let number = unsafe {
         raw::mittenhelm_start(
@@ -346,6 +372,8 @@ pub fn start(bound: u32, tables: &Tables) -> Result<(State, Request), Refusal> {
             tables.keys.len(),
             tables.distances.as_ptr(),
             tables.distances.len(),
+            tables.firsts.as_ptr(),
+            tables.firsts.len(),
             tables.leaves.as_ptr(),
             tables.leaves.len(),
             tables.queue.as_ptr(),
@@ -375,6 +403,8 @@ pub fn distance(state: &mut State, tables: &mut Tables, distance: f32) -> Result
             tables.keys.len(),
             tables.distances.as_mut_ptr(),
             tables.distances.len(),
+            tables.firsts.as_mut_ptr(),
+            tables.firsts.len(),
             tables.leaves.as_mut_ptr(),
             tables.leaves.len(),
             tables.queue.as_mut_ptr(),
@@ -390,25 +420,17 @@ pub fn distance(state: &mut State, tables: &mut Tables, distance: f32) -> Result
     accepted(number, state.asked().map(|_| Request { key, centre: [x, y, z], half }))
 }
 
-/// Calls a function of the boundary with a tree's keys and distances first.
-macro_rules! with_nodes {
-    ($call:ident, $tree:expr $(, $more:expr)*) => {
-        unsafe {
-            raw::$call(
-                $tree.keys.as_ptr(),
-                $tree.keys.len(),
-                $tree.distances.as_ptr(),
-                $tree.distances.len(),
-                $($more),*
-            )
-        }
+/// Calls a function of the boundary with some of a tree's tables first, each a pointer and a length.
+macro_rules! with_tables {
+    ($call:ident, $tree:expr, [$($table:ident),*] $(, $more:expr)*) => {
+        unsafe { raw::$call($($tree.$table.as_ptr(), $tree.$table.len(),)* $($more),*) }
     };
 }
 
-/// Calls a function of the boundary with a tree's three tables first.
+/// The same with all four.
 macro_rules! with_tree {
     ($call:ident, $tree:expr $(, $more:expr)*) => {
-        with_nodes!($call, $tree, $tree.leaves.as_ptr(), $tree.leaves.len() $(, $more)*)
+        with_tables!($call, $tree, [keys, distances, firsts, leaves] $(, $more)*)
     };
 }
 
@@ -420,6 +442,8 @@ pub struct Tree<'a> {
     pub keys: &'a [u64],
     /// The nodes' distances, in the order of the keys.
     pub distances: &'a [f32],
+    /// The place of each node's first child, 0 for a leaf, in the order of the keys.
+    pub firsts: &'a [u16],
     /// The leaves' keys, ascending.
     pub leaves: &'a [u64],
 }
@@ -468,10 +492,15 @@ fn around(dual_cell: impl FnOnce(&mut [u64; 8], &mut [f32; 8], &mut u32) -> u32)
     accepted(number, cell)
 }
 
+/// No tree of so many nodes has more vertices: each split adds at most the middles of its cell, of six faces and of twelve edges.
+pub fn most_vertices(nodes: usize) -> usize {
+    19 * (nodes.saturating_sub(1) / 8)
+}
+
 impl<'a> Tree<'a> {
-    /// Whether the tree is sound: as many keys as distances; each distance finite; keys strictly ascending, first 1, all cell keys of
-    /// level at most 15; each other key's parent present; each key with all eight children or none; the leaves exactly those with none,
-    /// ascending.
+    /// Whether the tree is sound: as many keys as distances and first children; each distance finite; keys strictly ascending, first 1,
+    /// all cell keys of level at most 15; each other key's parent present; each key with all eight children, whose first stands at the
+    /// place beside the key, or with none and 0 there; the leaves exactly those with none, ascending.
     #[inline]
     pub fn sound(&self) -> bool {
         let sound = with_tree!(mittenhelm_sound, self);
@@ -493,7 +522,8 @@ impl<'a> Tree<'a> {
         looked_up(|found, distance, tried| with_tree!(mittenhelm_look_up, self, key, found, distance, tried))
     }
 
-    /// Writes every vertex with its level, ascending, from a start place on into both tables. The answer is their number.
+    /// Writes every vertex with its level, ascending, from a start place on into both tables. The answer is their number. Where both
+    /// have `most_vertices` places from there on, the tree is gone over once, else twice.
     #[inline]
     pub fn list(&self, start: usize, vertices: &mut [u64], levels: &mut [u8]) -> Result<usize, Refusal> {
         listed(vertices, levels, |vertices, v, levels, l, count| {
@@ -522,14 +552,15 @@ impl<'a> SoundTree<'a> {
 
     /// As `Tree::look_up`, without a check of the tree.
     pub fn look_up(&self, key: u64) -> Result<Lookup, Refusal> {
-        looked_up(|found, distance, tried| with_nodes!(mittenhelm_look_up_trusting, self.tree, key, found, distance, tried))
+        looked_up(|found, distance, tried| {
+            with_tables!(mittenhelm_look_up_trusting, self.tree, [keys, distances, firsts], key, found, distance, tried)
+        })
     }
 
     /// As `Tree::list`, without a check of the tree.
     pub fn list(&self, start: usize, vertices: &mut [u64], levels: &mut [u8]) -> Result<usize, Refusal> {
-        let keys = self.tree.keys;
-        listed(vertices, levels, |vertices, v, levels, l, count| unsafe {
-            raw::mittenhelm_list_trusting(keys.as_ptr(), keys.len(), start, vertices, v, levels, l, count)
+        listed(vertices, levels, |vertices, v, levels, l, count| {
+            with_tables!(mittenhelm_list_trusting, self.tree, [keys, firsts], start, vertices, v, levels, l, count)
         })
     }
 
@@ -538,26 +569,16 @@ impl<'a> SoundTree<'a> {
     /// cell stand, in corner order. Who wants all and has room for one at least begins with 0, goes on with the last vertex + 1,
     /// and is done when fewer came than have room.
     pub fn cells(&self, from: u64, vertices: &mut [u64], levels: &mut [u8], places: &mut [usize]) -> usize {
-        let keys = self.tree.keys;
-        unsafe {
-            raw::mittenhelm_cells_trusting(
-                keys.as_ptr(),
-                keys.len(),
-                from,
-                vertices.as_mut_ptr(),
-                vertices.len(),
-                levels.as_mut_ptr(),
-                levels.len(),
-                places.as_mut_ptr(),
-                places.len(),
-            )
-        }
+        let (v, l, p) = (vertices.len(), levels.len(), places.len());
+        let (vertices, levels, places) = (vertices.as_mut_ptr(), levels.as_mut_ptr(), places.as_mut_ptr());
+        with_tables!(mittenhelm_cells_trusting, self.tree, [keys, firsts], from, vertices, v, levels, l, places, p)
     }
 
     /// As `Tree::dual_cell`, without a check of the tree.
     pub fn dual_cell(&self, vertex: u64, level: u32) -> Result<DualCell, Refusal> {
         around(|keys, distances, tried| {
-            with_nodes!(mittenhelm_dual_cell_trusting, self.tree, vertex, level, keys, distances, tried)
+            let tree = self.tree;
+            with_tables!(mittenhelm_dual_cell_trusting, tree, [keys, distances, firsts], vertex, level, keys, distances, tried)
         })
     }
 }

@@ -16,6 +16,7 @@ const NOT_FINITE: u32 = 16;
 pub struct Lent {
     keys: Vec<u64>,
     distances: Vec<f32>,
+    firsts: Vec<u16>,
     leaves: Vec<u64>,
     queue: Vec<u64>,
 }
@@ -25,11 +26,18 @@ impl Lent {
     pub fn new(nodes: u32) -> Self {
         let nodes = nodes as usize;
         let most_leaves = (7 * nodes + 1) / 8;
-        Lent { keys: vec![0; nodes], distances: vec![0.0; nodes], leaves: vec![0; most_leaves], queue: vec![0; most_leaves] }
+        Lent {
+            keys: vec![0; nodes],
+            distances: vec![0.0; nodes],
+            firsts: vec![0; nodes],
+            leaves: vec![0; most_leaves],
+            queue: vec![0; most_leaves],
+        }
     }
 
     pub fn tables(&mut self) -> Tables<'_> {
-        Tables { keys: &mut self.keys, distances: &mut self.distances, leaves: &mut self.leaves, queue: &mut self.queue }
+        let Lent { keys, distances, firsts, leaves, queue } = self;
+        Tables { keys, distances, firsts, leaves, queue }
     }
 }
 

@@ -26,6 +26,7 @@ pub fn tables(built: &Built, reading: &Reading) -> Vec<Table> {
     vec![
         Table::of::<u64>("node keys", lent.keys.len(), tree.keys.len()),
         Table::of::<f32>("node distances", lent.distances.len(), tree.distances.len()),
+        Table::of::<u16>("first children", lent.firsts.len(), tree.firsts.len()),
         Table::of::<u64>("leaf keys", lent.leaves.len(), tree.leaves.len()),
         Table::of::<u64>("queue", lent.queue.len(), built.queued as usize),
         Table::of::<u64>("state", built.state.0.len(), built.state.0.len()),

@@ -5,13 +5,6 @@ use super::fields::Point;
 use super::progress::Progress;
 use mittenhelm::{DualCell, Refusal, SoundTree, Tree};
 
-/// Every build splits the root and its eight children, which gives 27 vertices.
-const FIRST_SPLITS: usize = 9;
-const FIRST_VERTICES: usize = 27;
-
-/// Splitting a leaf makes no more vertices: of 27 places, the eight corners were there.
-const VERTICES_OF_A_SPLIT: usize = 19;
-
 #[derive(Clone, Copy)]
 pub struct Leaf {
     pub key: u64,
@@ -47,8 +40,7 @@ pub struct Reading {
 impl Reading {
     pub fn new(tree: &Tree, exponent: u32, progress: &mut Progress) -> Result<Self, Fault> {
         let sound = tree.checked()?;
-        let splits = tree.keys.len() - tree.leaves.len();
-        let list_places = FIRST_VERTICES + VERTICES_OF_A_SPLIT * (splits - FIRST_SPLITS);
+        let list_places = mittenhelm::most_vertices(tree.keys.len());
         let (mut vertices, mut levels) = (vec![0; list_places], vec![0; list_places]);
         let count = sound.list(0, &mut vertices, &mut levels)?;
         let mut cells = Vec::with_capacity(count);
