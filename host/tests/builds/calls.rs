@@ -1,4 +1,4 @@
-//! One call of start or distance: ours beside the model of document 01. After each, all eight words of the state, every place of
+//! One call of start or distance: ours beside the model of document 01. After each, all words of the state, every place of
 //! every table and every out parameter must be the model's, and what lies around them as it was.
 
 use mittenhelm::raw::{mittenhelm_distance, mittenhelm_start};
@@ -37,12 +37,13 @@ impl Seen {
     }
 }
 
-/// Ours and the model's, side by side: a state and four tables each.
+/// Ours and the model's, side by side: a state and the tables each.
 #[derive(Clone)]
 pub struct Pair {
     state: Fenced<u64>,
     keys: Fenced<u64>,
     distances: Fenced<u32>,
+    firsts: Fenced<u16>,
     leaves: Fenced<u64>,
     queue: Fenced<u64>,
     /// What the state must hold.
@@ -57,6 +58,7 @@ impl Pair {
             state: Fenced::new(&words),
             keys: Fenced::new(&tables.keys),
             distances: Fenced::new(&tables.distances),
+            firsts: Fenced::new(&tables.firsts),
             leaves: Fenced::new(&tables.leaves),
             queue: Fenced::new(&tables.queue),
             words,
@@ -66,7 +68,7 @@ impl Pair {
 
     pub fn start(&mut self, bound: u32, seen: &mut Seen) -> Answer<Request> {
         let expected = build::start(bound, &self.tables, &mut self.words);
-        let (keys, distances) = (self.keys.part(), self.distances.part());
+        let (keys, distances, firsts) = (self.keys.part(), self.distances.part(), self.firsts.part());
         let (leaves, queue) = (self.leaves.part(), self.queue.part());
         let state = self.state.lend();
         let (mut key, [mut x, mut y, mut z, mut half]) = untouched();
@@ -77,6 +79,8 @@ impl Pair {
                 keys.len(),
                 distances.as_ptr().cast(),
                 distances.len(),
+                firsts.as_ptr(),
+                firsts.len(),
                 leaves.as_ptr(),
                 leaves.len(),
                 queue.as_ptr(),
@@ -104,7 +108,7 @@ impl Pair {
         let before = self.words.clone();
         let expected = build::distance(&mut self.words, &mut self.tables, distance);
         let (state, keys, distances) = (self.state.lend(), self.keys.lend(), self.distances.lend());
-        let (leaves, queue) = (self.leaves.lend(), self.queue.lend());
+        let (firsts, leaves, queue) = (self.firsts.lend(), self.leaves.lend(), self.queue.lend());
         let (mut key, [mut x, mut y, mut z, mut half]) = untouched();
         let number = unsafe {
             mittenhelm_distance(
@@ -114,6 +118,8 @@ impl Pair {
                 keys.len(),
                 distances.as_mut_ptr().cast(),
                 distances.len(),
+                firsts.as_mut_ptr(),
+                firsts.len(),
                 leaves.as_mut_ptr(),
                 leaves.len(),
                 queue.as_mut_ptr(),
@@ -143,6 +149,7 @@ impl Pair {
         self.state.assert_holds(&self.words, "state", call);
         self.keys.assert_holds(&self.tables.keys, "node keys", call);
         self.distances.assert_holds(&self.tables.distances, "node distances", call);
+        self.firsts.assert_holds(&self.tables.firsts, "first children", call);
         self.leaves.assert_holds(&self.tables.leaves, "leaf keys", call);
         self.queue.assert_holds(&self.tables.queue, "queue", call);
     }

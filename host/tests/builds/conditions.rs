@@ -4,9 +4,10 @@
 use crate::calls::{Pair, Seen};
 use oracle_answers::forged::{garbage, Forged};
 use oracle_answers::inputs::{first_cell, last_cell, BROKEN_DISTANCES, GREATEST_DISTANCES};
+use oracle_answers::model::build::{STATE_WORDS, TABLES};
 
 /// A state of so many nodes and leaves; every place of the queue holds 64, a cell of every grid.
-fn state(bound: u64, n: u64, m: u64, asked: u64, lengths: [usize; 4]) -> Forged {
+fn state(bound: u64, n: u64, m: u64, asked: u64, lengths: [usize; TABLES]) -> Forged {
     let mut words = vec![bound, n, m, asked];
     words.extend(lengths.map(|length| length as u64));
     let mut tables = garbage(lengths);
@@ -33,7 +34,17 @@ fn number(forged: Forged) -> u32 {
 }
 
 /// Lengths for a state that asks for 100, a cell of level 2, while 8 of 24 places of the ring are taken: n is 16, m is 13.
-const ENOUGH: [usize; 4] = [20, 21, 22, 24];
+const ENOUGH: [usize; TABLES] = [20, 21, 23, 22, 24];
+
+/// The same but for leaves and queue.
+fn nodes_and(leaves: usize, queue: usize) -> [usize; TABLES] {
+    [20, 21, 23, leaves, queue]
+}
+
+/// Lengths with room for so many nodes.
+fn rooms(nodes: usize, leaves: usize, queue: usize) -> [usize; TABLES] {
+    [nodes, nodes, nodes, leaves, queue]
+}
 
 #[test]
 fn lengths_are_those_of_the_start() {
@@ -52,7 +63,7 @@ fn lengths_are_those_of_the_start() {
             assert_eq!(number(other), 10);
         }
     }
-    for words in [0, 1, 7, 9, 16] {
+    for words in [0, 1, 7, STATE_WORDS - 1, STATE_WORDS + 1, 16] {
         let mut other = whole.clone();
         other.words.resize(words, 5);
         assert_eq!(number(other), 10);
@@ -69,16 +80,26 @@ fn the_bound_is_at_most_15() {
 /// Where n equals the node room, no node has room; where m equals the leaf room, no leaf has, but a split needs none.
 #[test]
 fn counts_are_at_most_the_rooms() {
-    for (keys, distances, expected) in
-        [(17, 17, 0), (16, 17, 6), (17, 16, 6), (16, 16, 6), (15, 17, 10), (17, 15, 10), (0, 0, 10)]
-    {
-        assert_eq!(number(state(5, 16, 13, 100, [keys, distances, 22, 24])), expected, "{keys} and {distances}");
+    for (nodes, expected) in [
+        ([17, 17, 17], 0),
+        ([16, 17, 17], 6),
+        ([17, 16, 17], 6),
+        ([17, 17, 16], 6),
+        ([16, 16, 16], 6),
+        ([15, 17, 17], 10),
+        ([17, 15, 17], 10),
+        ([17, 17, 15], 10),
+        ([17, 17, 0], 10),
+        ([0, 0, 0], 10),
+    ] {
+        let [keys, distances, firsts] = nodes;
+        assert_eq!(number(state(5, 16, 13, 100, [keys, distances, firsts, 22, 24])), expected, "{nodes:?}");
     }
     for (n, m, expected) in [(4095, 3583, 0), (4096, 3584, 6), (4097, 3584, 10), (4104, 3591, 10)] {
-        assert_eq!(number(state(5, n, m, 100, [5000, 5000, 5000, 64])), expected, "n {n}");
+        assert_eq!(number(state(5, n, m, 100, rooms(5000, 5000, 64))), expected, "n {n}");
     }
     for (leaves, unsplit, split) in [(14, 0, 0), (13, 7, 0), (12, 10, 10), (0, 10, 10)] {
-        let other = state(5, 16, 13, 100, [20, 21, leaves, 24]);
+        let other = state(5, 16, 13, 100, nodes_and(leaves, 24));
         assert_eq!((said(&other, 9.0), said(&other, 0.0)), (unsplit, split), "{leaves} leaves");
     }
 }
@@ -92,11 +113,11 @@ fn waiting_items_are_at_most_the_queue() {
         assert_eq!(number(state(5, n, m, 100, ENOUGH)), expected, "n {n}, m {m}");
     }
     for (queue, unsplit, split) in [(16, 0, 0), (15, 0, 8), (9, 0, 8), (8, 0, 8), (7, 10, 10), (1, 10, 10), (0, 10, 10)] {
-        let other = state(5, 16, 13, 100, [20, 21, 22, queue]);
+        let other = state(5, 16, 13, 100, nodes_and(22, queue));
         assert_eq!((said(&other, 9.0), said(&other, 0.0)), (unsplit, split), "8 waiting in a queue of {queue}");
     }
     for (queue, split) in [(0, 8), (1, 8), (7, 8), (8, 0), (9, 0)] {
-        let other = state(5, 16, 14, 100, [20, 21, 22, queue]);
+        let other = state(5, 16, 14, 100, nodes_and(22, queue));
         assert_eq!((said(&other, 9.0), said(&other, 0.0)), (0, split), "none waiting in a queue of {queue}");
     }
 }
@@ -129,26 +150,27 @@ fn asked_and_next_key() {
             }
         }
         for (key, expected) in keys {
-            assert_eq!(number(state(bound, 16, 13, key, [20, 20, 20, 24])), expected, "bound {bound}, asked {key}");
-            let mut next = state(bound, 16, 13, 64, [20, 20, 20, 24]);
+            assert_eq!(number(state(bound, 16, 13, key, rooms(20, 20, 24))), expected, "bound {bound}, asked {key}");
+            let mut next = state(bound, 16, 13, 64, rooms(20, 20, 24));
             next.tables.queue[16] = key;
             assert_eq!(number(next), expected, "bound {bound}, next {key}");
             // The key in front is read only if it waits.
-            let mut last = state(bound, 16, 14, 64, [20, 20, 20, 24]);
+            let mut last = state(bound, 16, 14, 64, rooms(20, 20, 24));
             last.tables.queue[16] = key;
             assert_eq!(number(last), 0, "bound {bound}, none waiting, {key} in the queue");
         }
         // 0 in front is no cell; as the asked key it says that nothing is asked.
-        let mut next = state(bound, 16, 13, 64, [20, 20, 20, 24]);
+        let mut next = state(bound, 16, 13, 64, rooms(20, 20, 24));
         next.tables.queue[16] = 0;
         assert_eq!(number(next), 10);
         for (n, m, expected) in [(17, 15, 9), (1, 1, 9), (9, 8, 9), (16, 13, 10), (16, 14, 10), (17, 14, 10), (0, 0, 10)] {
-            assert_eq!(number(state(bound, n, m, 0, [20, 20, 20, 24])), expected, "bound {bound}, n {n}, m {m}, nothing asked");
+            assert_eq!(number(state(bound, n, m, 0, rooms(20, 20, 24))), expected, "bound {bound}, n {n}, m {m}, nothing asked");
         }
         // 9 goes before 6, and a finished tree may fill its tables.
-        assert_eq!(number(state(bound, 17, 15, 0, [17, 17, 15, 0])), 9);
-        assert_eq!(number(state(bound, 17, 15, 0, [16, 17, 15, 0])), 10);
-        assert_eq!(number(state(bound, 17, 15, 0, [17, 17, 14, 0])), 10);
+        assert_eq!(number(state(bound, 17, 15, 0, rooms(17, 15, 0))), 9);
+        assert_eq!(number(state(bound, 17, 15, 0, [16, 17, 17, 15, 0])), 10);
+        assert_eq!(number(state(bound, 17, 15, 0, [17, 17, 16, 15, 0])), 10);
+        assert_eq!(number(state(bound, 17, 15, 0, rooms(17, 14, 0))), 10);
     }
 }
 
@@ -156,16 +178,16 @@ fn asked_and_next_key() {
 #[test]
 fn refusals_in_their_order() {
     let all = |forged: &Forged| [0.0, 9.0, f32::INFINITY, f32::NEG_INFINITY, f32::NAN].map(|distance| said(forged, distance));
-    let full = state(5, 16, 13, 100, [16, 16, 13, 15]);
+    let full = state(5, 16, 13, 100, rooms(16, 13, 15));
     // No node, no leaf and no children have room: 6, whatever the distance, so long as it is one.
     assert_eq!(all(&full), [6, 6, 16, 16, 16]);
-    let full = state(5, 16, 13, 100, [17, 17, 13, 15]);
+    let full = state(5, 16, 13, 100, rooms(17, 13, 15));
     assert_eq!(all(&full), [8, 7, 16, 16, 16]);
     assert_eq!(all(&state(5, 16, 13, 100, ENOUGH)), [0, 0, 16, 16, 16]);
     // Nothing is asked, in tables that a finished tree fills: 9.
-    assert_eq!(all(&state(5, 17, 15, 0, [17, 17, 15, 0])), [9; 5]);
+    assert_eq!(all(&state(5, 17, 15, 0, rooms(17, 15, 0))), [9; 5]);
     // A state that doesn't fit: 10.
-    for word in 0..8 {
+    for word in 0..STATE_WORDS {
         let mut other = full.clone();
         other.words[word] = u64::MAX;
         assert_eq!(all(&other), [10; 5]);
@@ -177,24 +199,25 @@ fn refusals_in_their_order() {
 fn broken_distances_of_the_first_levels() {
     for asked in [1, 8, 15] {
         for (queue, split) in [(15, 8), (16, 0)] {
-            let forged = state(5, 16, 13, asked, [20, 21, 22, queue]);
+            let forged = state(5, 16, 13, asked, nodes_and(22, queue));
             assert_eq!(number(forged), split, "{asked} in a queue of {queue}");
         }
     }
 }
 
-/// Starts of every bound and other numbers, in tables of all lengths, with eight words and others.
+/// Starts of every bound and other numbers, in tables of all lengths, with the words of a state and others.
 #[test]
 fn starts() {
     let mut seen = Seen::default();
     let bounds = (0..=20).chain([255, 256, 1 << 16, 1 << 31, (1 << 31) + 15, u32::MAX]);
     for bound in bounds {
-        for words in [0, 1, 7, 8, 9, 16] {
-            for lengths in [[0; 4], [1, 2, 3, 4], [4095, 4096, 4097, 5000], [73, 73, 64, 64], [5000, 0, 1, 63]] {
+        for words in [0, 1, 7, 8, 9, 10, 16] {
+            for lengths in [[0; TABLES], [1, 2, 3, 4, 5], [4095, 4096, 4097, 4098, 5000], rooms(73, 64, 64), [5000, 0, 9, 1, 63]]
+            {
                 let mut pair = Pair::new(vec![0xbad; words], garbage(lengths));
                 let expected = if bound > 15 {
                     Err(5)
-                } else if words == 8 {
+                } else if words == STATE_WORDS {
                     Ok(1)
                 } else {
                     Err(10)

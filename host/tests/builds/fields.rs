@@ -6,7 +6,8 @@ use oracle_answers::compares_with_text;
 use oracle_answers::fields::{field, Kind};
 use oracle_answers::forged::garbage;
 use oracle_answers::inputs::{Random, BROKEN_DISTANCES};
-use oracle_answers::model::{build::Tables, level};
+use oracle_answers::model::build::{Tables, STATE_WORDS, TABLES};
+use oracle_answers::model::level;
 use oracle_answers::trees::{unreached, Field, Tree};
 
 /// A field and the trees that the text builds over it.
@@ -53,20 +54,21 @@ impl Case {
     }
 
     /// The refusal of the distance for a node, by the tree alone: with so many leaves before it, and so many cells waiting.
-    fn refusal(&self, place: usize, leaves: usize, waiting: usize, lengths: [usize; 4]) -> Option<u32> {
+    fn refusal(&self, place: usize, leaves: usize, waiting: usize, lengths: [usize; TABLES]) -> Option<u32> {
         let is_leaf = self.tree.is_leaf(self.tree.nodes[place].request.key);
-        if place == lengths[0].min(lengths[1]).min(4096) {
+        let [keys, distances, firsts, leaf_room, queue] = lengths;
+        if place == keys.min(distances).min(firsts).min(4096) {
             Some(6)
         } else if is_leaf {
-            Some(7).filter(|_| leaves == lengths[2])
+            Some(7).filter(|_| leaves == leaf_room)
         } else {
-            Some(8).filter(|_| waiting + 8 > lengths[3])
+            Some(8).filter(|_| waiting + 8 > queue)
         }
     }
 
     /// Builds in tables of these lengths, to the end or to the first refusal, which is handed on.
-    pub fn build(&self, lengths: [usize; 4], compared: &mut Compared, seen: &mut Seen) -> Option<u32> {
-        let mut pair = Pair::new(vec![0xbad; 8], garbage(lengths));
+    pub fn build(&self, lengths: [usize; TABLES], compared: &mut Compared, seen: &mut Seen) -> Option<u32> {
+        let mut pair = Pair::new(vec![0xbad; STATE_WORDS], garbage(lengths));
         let mut request = pair.start(self.bound, seen).expect("a bound up to 15");
         let mut leaves = 0;
         let waiting = self.tree.waiting();
@@ -150,6 +152,9 @@ impl Case {
         for (place, node) in self.tree.nodes[..nodes].iter().enumerate() {
             assert_eq!(tables.keys[place], node.request.key, "{}", self.name);
             assert_eq!(tables.distances[place], node.distance.to_bits(), "{}: place {place}", self.name);
+            // Where the text's nodes, in their order, have the first child: also before that has its turn.
+            let first = self.tree.place_of(8 * node.request.key).unwrap_or(0);
+            assert_eq!(tables.firsts[place] as usize, first, "{}: place {place}", self.name);
         }
         assert_eq!(tables.leaves[..leaves], self.tree.leaves[..leaves], "{}", self.name);
         compared.builds += 1;
@@ -160,15 +165,15 @@ impl Case {
 }
 
 /// Lengths for a tree: exact ones, greater ones, one too short, and any.
-fn lengths(tree: &Tree, random: &mut Random) -> [usize; 4] {
+fn lengths(tree: &Tree, random: &mut Random) -> [usize; TABLES] {
     let needs = tree.needs();
     let mut one_short = needs;
-    let one = random.below(4) as usize;
+    let one = random.below(TABLES as u64) as usize;
     match random.below(10) {
         0 | 1 | 2 => needs,
         3 => needs.map(|length| length + random.below(20) as usize),
         4 => needs.map(usize::next_power_of_two),
-        5 => [4096, 4100, 4096, 4000].map(|length| length + random.below(3) as usize),
+        5 => [4096, 4100, 4098, 4096, 4000].map(|length| length + random.below(3) as usize),
         6 => {
             one_short[one] -= 1;
             one_short

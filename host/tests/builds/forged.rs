@@ -6,6 +6,7 @@ use crate::fields::Case;
 use oracle_answers::fields::KINDS;
 use oracle_answers::forged::{garbage, some_lengths, Forged, WORDS};
 use oracle_answers::inputs::Random;
+use oracle_answers::model::build::STATE_WORDS;
 use oracle_answers::model::level;
 
 /// Gives distances, one after another, some of them broken: what follows a forged state that fits may be odd, and is the model's too.
@@ -71,7 +72,13 @@ fn long_tables() {
     for round in 0..20_000 {
         let mut one_of = |lengths: [usize; 4]| lengths[random.below(4) as usize];
         let nodes = [4095, 4096, 4097, 4100];
-        let lengths = [one_of(nodes), one_of(nodes), one_of([3000, 3583, 3584, 4100]), one_of([64, 100, 4096, 7 * 4095 + 8])];
+        let lengths = [
+            one_of(nodes),
+            one_of(nodes),
+            one_of(nodes),
+            one_of([3000, 3583, 3584, 4100]),
+            one_of([64, 100, 4096, 7 * 4095 + 8]),
+        ];
         let mut forged = Forged::new(lengths, &mut random);
         if round % 4 == 0 {
             forged.words[1] = 4094 + random.below(4);
@@ -93,7 +100,7 @@ fn near_real_builds() {
     for (number, kind) in KINDS.into_iter().enumerate() {
         for bound in [2, 3, 6, 15] {
             let case = Case::new(kind, bound, 700 + number as u64);
-            let mut pair = Pair::new(vec![0; 8], garbage(case.tree.needs()));
+            let mut pair = Pair::new(vec![0; STATE_WORDS], garbage(case.tree.needs()));
             pair.start(bound, &mut seen).expect("a bound up to 15");
             for (step, node) in case.tree.nodes.iter().take(300).enumerate() {
                 let real = Forged { words: pair.words.clone(), tables: pair.tables.clone() };
@@ -103,7 +110,7 @@ fn near_real_builds() {
                     check(near, 1, &mut random, &mut seen);
                 }
                 if step % 67 == 0 {
-                    for bit in 0..512 {
+                    for bit in 0..64 * STATE_WORDS {
                         let mut near = real.clone();
                         near.words[bit / 64] ^= 1 << (bit % 64);
                         check(near, 1, &mut random, &mut seen);

@@ -13,16 +13,21 @@ enum { BOUND = 5, SLAB_EXPONENT = 3, SLABS = 1 << SLAB_EXPONENT };
 
 static uint64_t keys[NODES], leaves[LEAVES], queue[LEAVES], vertices[VERTICES];
 static float distances[NODES];
+static uint16_t firsts[NODES];
 static uint8_t levels[VERTICES];
 static uint32_t cells_in_slab[SLABS];
 
 /* The tables together, with the state. */
-enum { LENT = sizeof keys + sizeof distances + sizeof leaves + sizeof queue + sizeof vertices + sizeof levels + 64 };
+enum {
+    LENT = sizeof keys + sizeof distances + sizeof firsts + sizeof leaves + sizeof queue + sizeof vertices + sizeof levels
+        + 8 * MITTENHELM_STATE_WORDS
+};
 
 static size_t nodes, leaf_count;
 
-/* The tree that the build left. */
-#define TREE keys, nodes, distances, nodes, leaves, leaf_count
+/* The tables of the build, and the tree that it left. */
+#define TABLES keys, NODES, distances, NODES, firsts, NODES, leaves, LEAVES, queue, LEAVES
+#define TREE keys, nodes, distances, nodes, firsts, nodes, leaves, leaf_count
 
 /* The distance from a sphere. Coordinates down to level 5 have six binary places, so all is exact up to the root: it makes no
  * difference whether a compiler joins a product and a sum. The root and the last difference are rounded once each. */
@@ -40,12 +45,10 @@ static void build(void)
     float x, y, z, half;
     uint32_t refusal;
 
-    refusal = mittenhelm_start(BOUND, keys, NODES, distances, NODES, leaves, LEAVES, queue, LEAVES, state, MITTENHELM_STATE_WORDS,
-        &key, &x, &y, &z, &half);
+    refusal = mittenhelm_start(BOUND, TABLES, state, MITTENHELM_STATE_WORDS, &key, &x, &y, &z, &half);
     expect(refusal == MITTENHELM_ACCEPTED, "start");
     while (refusal == MITTENHELM_ACCEPTED && state[MITTENHELM_STATE_ASKED] != 0)
-        refusal = mittenhelm_distance(state, MITTENHELM_STATE_WORDS, keys, NODES, distances, NODES, leaves, LEAVES, queue, LEAVES,
-            sphere(x, y, z), &key, &x, &y, &z, &half);
+        refusal = mittenhelm_distance(state, MITTENHELM_STATE_WORDS, TABLES, sphere(x, y, z), &key, &x, &y, &z, &half);
     expect(refusal == MITTENHELM_ACCEPTED, "every distance has room");
     if (refusal != MITTENHELM_ACCEPTED)
         return;
@@ -88,6 +91,11 @@ static void check_tree(void)
     expect(mittenhelm_sound(TREE), "the tree is sound");
     expect(8 * leaf_count == 7 * nodes + 1, "seven leaves more for each split");
     expect(ascends(keys, nodes) && ascends(leaves, leaf_count), "keys and leaves ascend");
+    for (i = 0; i < nodes; i++) {
+        const size_t first = place_of(8 * keys[i], keys, nodes);
+
+        expect(firsts[i] == (first < nodes ? first : 0), "the place of a first child, or 0");
+    }
     for (i = 0; i < leaf_count; i++) {
         expect(mittenhelm_level(leaves[i]) <= BOUND, "no leaf is deeper than the bound");
         volume += (uint64_t)1 << 3 * (BOUND - mittenhelm_level(leaves[i]));

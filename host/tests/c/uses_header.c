@@ -8,26 +8,35 @@
 /* The tables of a build. */
 static uint64_t keys[73], leaves[64], queue[64];
 static float distances[73];
+static uint16_t firsts[73];
+
+/* A finished tree of bound 2: its nodes, and all of it; and all tables of its build, with a queue of so many places. */
+#define NODES keys, 73, distances, 73, firsts, 73
+#define TREE NODES, leaves, 64
+#define TABLES TREE, queue, queue_length
 
 /* Gives what is no distance while a cell is asked for: it is refused, and the build stands where it stood. */
 static void refuse_broken(uint64_t *state, size_t queue_length)
 {
     const float broken[3] = {INFINITY, -INFINITY, NAN};
     uint64_t state_before[MITTENHELM_STATE_WORDS], keys_before[73], leaves_before[64], queue_before[64], key = 5;
+    uint16_t firsts_before[73];
     float distances_before[73], x = 5, y = 5, z = 5, half = 5;
     int i;
 
     memcpy(state_before, state, sizeof state_before);
     memcpy(keys_before, keys, sizeof keys);
     memcpy(distances_before, distances, sizeof distances);
+    memcpy(firsts_before, firsts, sizeof firsts);
     memcpy(leaves_before, leaves, sizeof leaves);
     memcpy(queue_before, queue, sizeof queue);
     for (i = 0; i < 3; i++) {
-        expect(mittenhelm_distance(state, 8, keys, 73, distances, 73, leaves, 64, queue, queue_length, broken[i],
-            &key, &x, &y, &z, &half) == MITTENHELM_NOT_FINITE, "a distance that is infinite or NaN");
+        expect(mittenhelm_distance(state, MITTENHELM_STATE_WORDS, TABLES, broken[i], &key, &x, &y, &z, &half)
+            == MITTENHELM_NOT_FINITE, "a distance that is infinite or NaN");
         expect(memcmp(state_before, state, sizeof state_before) == 0, "the state after a broken distance");
         expect(memcmp(keys_before, keys, sizeof keys) == 0 && memcmp(distances_before, distances, sizeof distances) == 0
-            && memcmp(leaves_before, leaves, sizeof leaves) == 0 && memcmp(queue_before, queue, sizeof queue) == 0,
+            && memcmp(firsts_before, firsts, sizeof firsts) == 0 && memcmp(leaves_before, leaves, sizeof leaves) == 0
+            && memcmp(queue_before, queue, sizeof queue) == 0,
             "the tables after a broken distance");
         expect(key == 5 && x == 5 && y == 5 && z == 5 && half == 5, "no request after a broken distance");
     }
@@ -40,34 +49,37 @@ static unsigned refused_at(size_t queue_length, uint32_t *refusal)
     float x = 5, y = 5, z = 5, half = 5;
     unsigned given = 0;
 
-    *refusal = mittenhelm_start(2, keys, 73, distances, 73, leaves, 64, queue, queue_length, state, 8, &key, &x, &y, &z, &half);
+    /* A build writes the first child of each node, a leaf's too. */
+    memset(firsts, 0xff, sizeof firsts);
+    *refusal = mittenhelm_start(2, TABLES, state, MITTENHELM_STATE_WORDS, &key, &x, &y, &z, &half);
     expect(*refusal == MITTENHELM_ACCEPTED, "start");
     expect(key == 1 && x == 0.5f && y == 0.5f && z == 0.5f && half == 0.5f, "the root is asked for first");
     while (state[MITTENHELM_STATE_ASKED] != 0) {
         expect(state[MITTENHELM_STATE_ASKED] == key && state[MITTENHELM_STATE_NODES] == given, "state");
         refuse_broken(state, queue_length);
         given++;
-        *refusal = mittenhelm_distance(state, 8, keys, 73, distances, 73, leaves, 64, queue, queue_length, (float)given,
-            &key, &x, &y, &z, &half);
+        *refusal = mittenhelm_distance(state, MITTENHELM_STATE_WORDS, TABLES, (float)given, &key, &x, &y, &z, &half);
         if (*refusal != MITTENHELM_ACCEPTED)
             return given;
     }
     expect(given == 73 && state[MITTENHELM_STATE_NODES] == 73 && state[MITTENHELM_STATE_LEAVES] == 64, "counts");
     expect(keys[0] == 1 && keys[9] == 64 && keys[72] == 127 && leaves[0] == 64 && leaves[63] == 127, "keys and leaves");
     expect(distances[0] == 1.0f && distances[72] == 73.0f, "distances");
+    expect(firsts[0] == 1 && firsts[1] == 9 && firsts[8] == 65 && firsts[9] == 0 && firsts[72] == 0, "first children");
+    expect(state[MITTENHELM_STATE_FIRSTS_LENGTH] == 73 && state[MITTENHELM_STATE_LEAVES_LENGTH] == 64, "lengths");
     expect(key == 127 && x == 0.875f && y == 0.875f && z == 0.875f && half == 0.125f, "the last cell that was asked for");
-    *refusal = mittenhelm_distance(state, 8, keys, 73, distances, 73, leaves, 64, queue, queue_length, NAN,
-        &key, &x, &y, &z, &half);
+    *refusal = mittenhelm_distance(state, MITTENHELM_STATE_WORDS, TABLES, NAN, &key, &x, &y, &z, &half);
     expect(*refusal == MITTENHELM_NOTHING_ASKED, "a distance after the last");
-    *refusal = mittenhelm_distance(state, 8, keys, 72, distances, 73, leaves, 64, queue, queue_length, 1.0f,
-        &key, &x, &y, &z, &half);
+    *refusal = mittenhelm_distance(state, MITTENHELM_STATE_WORDS - 1, TABLES, NAN, &key, &x, &y, &z, &half);
+    expect(*refusal == MITTENHELM_NOT_FITTING, "a word too few");
+    *refusal = mittenhelm_distance(state, MITTENHELM_STATE_WORDS, keys, 73, distances, 73, firsts, 72, leaves, 64, queue,
+        queue_length, 1.0f, &key, &x, &y, &z, &half);
     expect(*refusal == MITTENHELM_NOT_FITTING, "another table");
     return 0;
 }
 
-/* All of them, as a finished build of bound 2 leaves them. */
-#define NODES keys, 73, distances, 73
-#define TREE NODES, leaves, 64
+/* What a list needs of it. */
+#define CELLS keys, 73, firsts, 73
 
 enum { ROOM = 10 };
 
@@ -81,7 +93,7 @@ static void read_cells(const uint64_t *list)
     uint32_t tried;
 
     while (count == ROOM) {
-        count = mittenhelm_cells_trusting(keys, 73, from, vertices, ROOM, levels, ROOM, places, 8 * ROOM + 7);
+        count = mittenhelm_cells_trusting(CELLS, from, vertices, ROOM, levels, ROOM, places, 8 * ROOM + 7);
         expect(count == (total < 20 ? ROOM : 7), "cells_trusting");
         if (wrong)
             return;
@@ -99,7 +111,23 @@ static void read_cells(const uint64_t *list)
         from = vertices[count - 1] + 1;
     }
     expect(total == 27, "all vertices");
-    expect(mittenhelm_cells_trusting(keys, 73, 0, vertices, ROOM, levels, ROOM, places, 7) == 0, "no room for eight places");
+    expect(mittenhelm_cells_trusting(CELLS, 0, vertices, ROOM, levels, ROOM, places, 7) == 0, "no room for eight places");
+}
+
+/* Lists with room for all vertices that nine splits could give: nothing is written behind the 27. */
+static void list_in_one_pass(void)
+{
+    uint64_t vertices[19 * 9];
+    uint8_t levels[19 * 9];
+    size_t count = 5;
+
+    vertices[27] = 5;
+    levels[27] = 5;
+    expect(mittenhelm_list(TREE, 0, vertices, 19 * 9, levels, 19 * 9, &count) == MITTENHELM_ACCEPTED && count == 27, "a long list");
+    expect(vertices[27] == 5 && levels[27] == 5, "behind a long list");
+    expect(mittenhelm_list_trusting(CELLS, 0, vertices, 19 * 9, levels, 19 * 9, &count) == MITTENHELM_ACCEPTED && count == 27,
+        "a long list of a trusted tree");
+    expect(vertices[27] == 5 && levels[27] == 5, "behind a long list of a trusted tree");
 }
 
 /* Reads the tree that the last build left. Its distances are 1 for the root, then 2, 3 and so on, 73 for the last cell. */
@@ -113,7 +141,11 @@ static void read_tree(uint64_t middle)
     int i;
 
     expect(mittenhelm_sound(TREE), "sound");
-    expect(!mittenhelm_sound(keys, 73, distances, 72, leaves, 64), "a distance too few");
+    expect(!mittenhelm_sound(keys, 73, distances, 72, firsts, 73, leaves, 64), "a distance too few");
+    expect(!mittenhelm_sound(keys, 73, distances, 73, firsts, 72, leaves, 64), "a first child too few");
+    firsts[8] = 57;
+    expect(!mittenhelm_sound(TREE), "the first child of another node");
+    firsts[8] = 65;
     distances[72] = -INFINITY;
     expect(!mittenhelm_sound(TREE), "a distance that is infinite");
     expect(mittenhelm_look_up(TREE, 71, &found, &distance, &tried) == MITTENHELM_NOT_SOUND && found == 5, "look_up beside it");
@@ -124,7 +156,7 @@ static void read_tree(uint64_t middle)
     expect(mittenhelm_look_up(TREE, 1, &found, &distance, &tried) == MITTENHELM_ACCEPTED, "look_up of the root");
     expect(found == 0 && distance == 0.0f && tried == 0, "the root is never tried");
     expect(mittenhelm_look_up(TREE, 16, &found, &distance, &tried) == MITTENHELM_NOT_A_CELL, "look_up of no cell");
-    expect(mittenhelm_look_up(keys, 73, distances, 73, leaves, 63, 16, &found, &distance, &tried) == MITTENHELM_NOT_SOUND,
+    expect(mittenhelm_look_up(NODES, leaves, 63, 16, &found, &distance, &tried) == MITTENHELM_NOT_SOUND,
         "look_up without a leaf");
 
     vertices[2] = 5;
@@ -143,23 +175,30 @@ static void read_tree(uint64_t middle)
     expect(mittenhelm_look_up_trusting(NODES, 963, &found, &distance, &tried) == MITTENHELM_ACCEPTED, "look_up_trusting");
     expect(found == 120 && distance == 66.0f && tried == 2, "the deepest ancestor in a trusted tree");
     expect(mittenhelm_look_up_trusting(NODES, 16, &found, &distance, &tried) == MITTENHELM_NOT_A_CELL, "trust and no cell");
-    expect(mittenhelm_look_up_trusting(keys, 73, distances, 0, 120, &found, &distance, &tried) == MITTENHELM_ACCEPTED,
+    expect(mittenhelm_look_up_trusting(keys, 73, distances, 0, firsts, 73, 120, &found, &distance, &tried) == MITTENHELM_ACCEPTED,
         "look_up_trusting without distances");
-    expect(found == 0 && distance == 0.0f && tried == 2, "nothing without a distance");
+    expect(found == 120 && distance == 0.0f && tried == 1, "0 without a distance");
+    expect(mittenhelm_look_up_trusting(keys, 73, distances, 73, firsts, 0, 120, &found, &distance, &tried) == MITTENHELM_ACCEPTED,
+        "look_up_trusting without first children");
+    expect(found == 0 && distance == 0.0f && tried == 2, "no way down without first children");
+    firsts[0] = 65;
+    expect(mittenhelm_look_up_trusting(NODES, 120, &found, &distance, &tried) == MITTENHELM_ACCEPTED && found == 0,
+        "no way down to another node's children");
+    firsts[0] = 1;
 
     count = 5;
     vertices[2] = 5;
     vertices[3] = 5;
-    expect(mittenhelm_list_trusting(keys, 73, 4, vertices, 30, levels, 30, &count) == MITTENHELM_LIST_FULL,
+    expect(mittenhelm_list_trusting(CELLS, 4, vertices, 30, levels, 30, &count) == MITTENHELM_LIST_FULL,
         "list_trusting in 26 places");
     expect(count == 5 && vertices[3] == 5, "a refused list of a trusted tree");
-    expect(mittenhelm_list_trusting(keys, 73, 3, vertices, 30, levels, 30, &count) == MITTENHELM_ACCEPTED, "list_trusting");
+    expect(mittenhelm_list_trusting(CELLS, 3, vertices, 30, levels, 30, &count) == MITTENHELM_ACCEPTED, "list_trusting");
     expect(count == 27 && vertices[2] == 5 && vertices[22] == middle && levels[22] == 2, "the same list");
-    expect(mittenhelm_list_trusting(keys, 0, 30, vertices, 30, levels, 30, &count) == MITTENHELM_ACCEPTED && count == 0,
-        "list_trusting without keys");
+    expect(mittenhelm_list_trusting(keys, 0, firsts, 73, 30, vertices, 30, levels, 30, &count) == MITTENHELM_ACCEPTED
+        && count == 0, "list_trusting without keys");
 
     cell_keys[0] = 5;
-    expect(mittenhelm_dual_cell_trusting(keys, 1, distances, 1, middle, 2, cell_keys, cell_distances, &tried)
+    expect(mittenhelm_dual_cell_trusting(keys, 1, distances, 1, firsts, 1, middle, 2, cell_keys, cell_distances, &tried)
         == MITTENHELM_NOT_A_VERTEX, "dual_cell_trusting of the root alone");
     expect(cell_keys[0] == 5 && tried == 2, "a refused dual cell");
     expect(mittenhelm_dual_cell_trusting(NODES, middle, 2, cell_keys, cell_distances, &tried) == MITTENHELM_ACCEPTED,
@@ -167,6 +206,7 @@ static void read_tree(uint64_t middle)
     expect(cell_keys[0] == 120 && cell_keys[7] == 71 && cell_distances[0] == 66.0f && tried == 8, "the same dual cell");
 
     read_cells(vertices + 3);
+    list_in_one_pass();
 
     expect(mittenhelm_slab(middle, 2, 15, &slab) == MITTENHELM_ACCEPTED && slab == 1 << 14, "slab");
     expect(mittenhelm_slab(middle, 2, 16, &slab) == MITTENHELM_ABOVE_FIFTEEN && slab == 1 << 14, "a slab exponent of 16");

@@ -9,7 +9,7 @@ use oracle_answers::trees::Tree;
 fn refusal(part: &str, bound: u32, nodes: usize) -> Option<(u32, [u64; build::STATE_WORDS])> {
     let field = named(part).expect("a built-in part").distance;
     let leaves = (7 * nodes + 1) / 8;
-    let (mut tables, mut state) = (build::Tables::of([nodes, nodes, leaves, leaves]), [0; build::STATE_WORDS]);
+    let (mut tables, mut state) = (build::Tables::of([nodes, nodes, nodes, leaves, leaves]), [0; build::STATE_WORDS]);
     let mut asked = Some(build::start(bound, &tables, &mut state).expect("a bound up to 15"));
     while let Some(request) = asked {
         match build::distance(&mut state, &mut tables, field(request.centre)) {

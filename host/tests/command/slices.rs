@@ -141,14 +141,15 @@ fn check_slabs(report: &str, table: &[Vec<String>], expected: &[[usize; 2]]) {
 /// Each table's places and bytes, and their sum.
 fn check_memory(report: &str, nodes: usize, expected: &Expected) {
     let (leaves, splits) = ((7 * nodes + 1) / 8, expected.tree.nodes.len() - expected.tree.leaves.len());
-    let [n, _, m, queue] = expected.tree.needs();
-    let (cells, listed) = (expected.cells.len(), 27 + 19 * (splits - 9));
+    let [n, _, _, m, queue] = expected.tree.needs();
+    let (cells, listed) = (expected.cells.len(), 19 * splits);
     let tables = [
         ("node keys", nodes, n, 8),
         ("node distances", nodes, n, 4),
+        ("first children", nodes, n, 2),
         ("leaf keys", leaves, m, 8),
         ("queue", leaves, queue, 8),
-        ("state", 8, 8, 8),
+        ("state", 9, 9, 8),
         ("vertices", listed, cells, 8),
         ("levels", listed, cells, 1),
     ];

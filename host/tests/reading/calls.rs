@@ -7,7 +7,7 @@ use mittenhelm::raw::{
 };
 use oracle_answers::inputs::Random;
 use oracle_answers::lent::{levels_before, one_nan, places_before, vertices_before, Fenced};
-use oracle_answers::model::reading::{self, DualCell, Lookup, Placed, Reading, Tables};
+use oracle_answers::model::reading::{self, Descent, DualCell, Lookup, Reading, Tables, Walk};
 use oracle_answers::model::{level, Answer};
 use oracle_answers::questions;
 use std::cell::RefCell;
@@ -55,17 +55,16 @@ pub struct Trusted {
     /// Lists that were written: with vertices, and those with none.
     pub lists: u64,
     pub empty_lists: u64,
-    /// Dual cells: with all eight entries, some, or none.
+    /// Dual cells: with all eight entries or none, since the way down comes to all children of the root or to none.
     pub whole_cells: u64,
-    pub part_cells: u64,
     pub empty_cells: u64,
 }
 
 impl Trusted {
     /// Asserts that every kind of answer was seen so often, and of the refusals 1, 4 and 12 alone.
     pub fn assert_every_answer(&self, times: u64) {
-        let Trusted { refused, itself, ancestor, nothing, lists, empty_lists, whole_cells, part_cells, empty_cells } = self;
-        let answers = [itself, ancestor, nothing, lists, empty_lists, whole_cells, part_cells, empty_cells];
+        let Trusted { refused, itself, ancestor, nothing, lists, empty_lists, whole_cells, empty_cells } = self;
+        let answers = [itself, ancestor, nothing, lists, empty_lists, whole_cells, empty_cells];
         assert!(answers.iter().all(|&&seen| seen >= times), "{self:?}");
         assert_refused(refused, times, &[1, 4, 12], self);
     }
@@ -92,7 +91,7 @@ impl Trusted {
         *match entries {
             Ok(8) => &mut self.whole_cells,
             Ok(0) => &mut self.empty_cells,
-            Ok(_) => &mut self.part_cells,
+            Ok(some) => panic!("{some} of eight entries"),
             Err(number) => &mut self.refused[number as usize],
         } += 1;
     }
@@ -132,27 +131,28 @@ impl Seen {
 pub struct Given {
     keys: Fenced<u64>,
     distances: Fenced<u32>,
+    firsts: Fenced<u16>,
     leaves: Fenced<u64>,
-    /// What `placed` answers, from its first call on: the model's walk takes its time.
-    placed: RefCell<Option<Rc<Vec<Placed>>>>,
+    /// What `walk` answers, from its first call on: the model's walk takes its time.
+    walk: RefCell<Option<Rc<Walk>>>,
     pub tables: Tables,
     pub reading: Reading,
+    /// What one comes to who trusts the tree.
+    pub descent: Descent,
 }
 
-/// Calls a function of the boundary with the keys and distances first.
-macro_rules! with_nodes {
-    ($call:ident, $given:expr $(, $more:expr)*) => {{
-        let (keys, distances) = ($given.keys.part(), $given.distances.part());
-        unsafe { $call(keys.as_ptr(), keys.len(), distances.as_ptr().cast(), distances.len(), $($more),*) }
-    }};
+/// Calls a function of the boundary with some of the tables first, each a pointer and a length.
+macro_rules! with_tables {
+    ($call:ident, $given:expr, [$($table:ident),*] $(, $more:expr)*) => {
+        unsafe { $call($($given.$table.part().as_ptr().cast(), $given.$table.part().len(),)* $($more),*) }
+    };
 }
 
-/// Calls a function of the boundary with the three tables first.
+/// The same with all four.
 macro_rules! with_tree {
-    ($call:ident, $given:expr $(, $more:expr)*) => {{
-        let leaves = $given.leaves.part();
-        with_nodes!($call, $given, leaves.as_ptr(), leaves.len() $(, $more)*)
-    }};
+    ($call:ident, $given:expr $(, $more:expr)*) => {
+        with_tables!($call, $given, [keys, distances, firsts, leaves] $(, $more)*)
+    };
 }
 
 impl Given {
@@ -160,9 +160,11 @@ impl Given {
         Given {
             keys: Fenced::new(&tables.keys),
             distances: Fenced::new(&tables.distances),
+            firsts: Fenced::new(&tables.firsts),
             leaves: Fenced::new(&tables.leaves),
-            placed: RefCell::new(None),
+            walk: RefCell::new(None),
             reading: Reading::of(&tables),
+            descent: tables.descent(),
             tables,
         }
     }
@@ -172,15 +174,21 @@ impl Given {
         self.reading.vertices().expect("a sound tree")
     }
 
-    /// The vertices that a list finds which trusts the tree: of a sound one they are its vertices.
-    pub fn walked(&self) -> Vec<(u64, u32)> {
-        self.placed().iter().map(|at| (at.vertex, at.level)).collect()
+    /// The walk of one who trusts the tree: of a sound one it finds the tree's vertices, with the nodes of their dual cells.
+    pub fn walk(&self) -> Rc<Walk> {
+        let walk = || {
+            let walk = self.descent.walk();
+            if let Ok(placed) = self.reading.placed() {
+                assert_eq!(walk.placed, placed, "{}", self.told(&"the walk of a sound tree"));
+            }
+            Rc::new(walk)
+        };
+        self.walk.borrow_mut().get_or_insert_with(walk).clone()
     }
 
-    /// The same with the places of the nodes round each: of a sound tree they are those of its dual cells.
-    pub fn placed(&self) -> Rc<Vec<Placed>> {
-        let walk = || Rc::new(self.reading.placed().unwrap_or_else(|_| self.tables.placed()));
-        self.placed.borrow_mut().get_or_insert_with(walk).clone()
+    /// The vertices that a list finds which trusts the tree.
+    pub fn walked(&self) -> Vec<(u64, u32)> {
+        self.walk().vertices()
     }
 
     pub fn sound(&self, seen: &mut Seen) -> bool {
@@ -198,15 +206,15 @@ impl Given {
 
     /// Both lookups, of which the trusting one answers an unsound tree too.
     pub fn look_up(&self, key: u64, seen: &mut Seen) -> Answer<Lookup> {
-        let (expected, trusting) = (self.reading.look_up(key), self.tables.look_up_trusting(key));
+        let (expected, trusting) = (self.reading.look_up(key), self.descent.look_up_trusting(key));
         self.agree_lookup(expected, format_args!("look_up({key:#x})"), |found, distance, tried| {
             with_tree!(mittenhelm_look_up, self, key, found, distance, tried)
         });
         self.agree_lookup(trusting, format_args!("look_up_trusting({key:#x})"), |found, distance, tried| {
-            with_nodes!(mittenhelm_look_up_trusting, self, key, found, distance, tried)
+            with_tables!(mittenhelm_look_up_trusting, self, [keys, distances, firsts], key, found, distance, tried)
         });
         if self.reading.is_sound() {
-            assert_eq!(trusting, expected, "{}: the climb of a sound tree", self.told(&format_args!("look_up({key:#x})")));
+            assert_eq!(trusting, expected, "{}: the way down in a sound tree", self.told(&format_args!("look_up({key:#x})")));
         } else {
             seen.trusted.count_lookup(key, trusting);
         }
@@ -242,16 +250,10 @@ impl Given {
         let expected = self.agree_list(listed, start, lengths, &format!("list {call}"), |vertices, v, levels, l, count| {
             with_tree!(mittenhelm_list, self, start, vertices, v, levels, l, count)
         });
-        let keys = self.keys.part();
-        let trusting = self.agree_list(
-            Ok(walked),
-            start,
-            lengths,
-            &format!("list_trusting {call}"),
-            |vertices, v, levels, l, count| unsafe {
-                mittenhelm_list_trusting(keys.as_ptr(), keys.len(), start, vertices, v, levels, l, count)
-            },
-        );
+        let call = format!("list_trusting {call}");
+        let trusting = self.agree_list(Ok(walked), start, lengths, &call, |vertices, v, levels, l, count| {
+            with_tables!(mittenhelm_list_trusting, self, [keys, firsts], start, vertices, v, levels, l, count)
+        });
         self.cells_around(start, lengths, seen);
         if !self.reading.is_sound() {
             seen.trusted.count_list(trusting);
@@ -292,7 +294,7 @@ impl Given {
     /// Vertices with their places, in a vertex table and a level table of these lengths: from 0 on, from a vertex on and from behind it,
     /// and from the greatest number on. The table of places has room for as many, for one less, or for part of another.
     fn cells_around(&self, some: usize, [vertices, levels]: [usize; 2], seen: &mut Seen) {
-        let placed = self.placed();
+        let placed = &self.walk().placed;
         let vertex = placed.get(some % placed.len().max(1)).map_or(0, |at| at.vertex);
         // More room than this makes no difference, and takes its time.
         let [vertices, levels] = [vertices, levels].map(|length| length.min(placed.len() + 9));
@@ -310,23 +312,14 @@ impl Given {
         let (mut vertices, mut levels, mut places) = (vertices_before(vertices), levels_before(levels), places_before(places));
         let (mut our_vertices, mut our_levels, mut our_places) =
             (Fenced::new(&vertices), Fenced::new(&levels), Fenced::new(&places));
-        let placed = self.placed();
-        let expected = reading::write_placed(&placed, from, &mut vertices, &mut levels, &mut places);
+        let placed = &self.walk().placed;
+        let expected = reading::write_placed(placed, from, &mut vertices, &mut levels, &mut places);
 
-        let (keys, v, l, p) = (self.keys.part(), our_vertices.lend(), our_levels.lend(), our_places.lend());
-        let count = unsafe {
-            mittenhelm_cells_trusting(
-                keys.as_ptr(),
-                keys.len(),
-                from,
-                v.as_mut_ptr(),
-                v.len(),
-                l.as_mut_ptr(),
-                l.len(),
-                p.as_mut_ptr(),
-                p.len(),
-            )
-        };
+        let (v, l, p) = (our_vertices.lend(), our_levels.lend(), our_places.lend());
+        let lengths = [v.len(), l.len(), p.len()];
+        let (v, l, p) = (v.as_mut_ptr(), l.as_mut_ptr(), p.as_mut_ptr());
+        let count =
+            with_tables!(mittenhelm_cells_trusting, self, [keys, firsts], from, v, lengths[0], l, lengths[1], p, lengths[2]);
         self.agree(&count, &expected, &call);
         our_vertices.assert_holds(&vertices, "vertices", &|| self.told(&call));
         our_levels.assert_holds(&levels, "levels", &|| self.told(&call));
@@ -341,16 +334,16 @@ impl Given {
 
     /// Both calls for a dual cell, of which the trusting one answers an unsound tree too.
     pub fn dual_cell(&self, vertex: u64, level: u32, seen: &mut Seen) -> Answer<DualCell> {
-        let (expected, trusting) = (self.reading.dual_cell(vertex, level), self.tables.dual_cell_trusting(vertex, level));
+        let (expected, trusting) = (self.reading.dual_cell(vertex, level), self.descent.dual_cell_trusting(vertex, level));
         let call = format!("dual_cell({vertex:#x}, {level})");
         self.agree_cell(expected, &call, |keys, distances, tried| {
             with_tree!(mittenhelm_dual_cell, self, vertex, level, keys, distances, tried)
         });
         self.agree_cell(trusting, &format!("trusting {call}"), |keys, distances, tried| {
-            with_nodes!(mittenhelm_dual_cell_trusting, self, vertex, level, keys, distances, tried)
+            with_tables!(mittenhelm_dual_cell_trusting, self, [keys, distances, firsts], vertex, level, keys, distances, tried)
         });
         if self.reading.is_sound() {
-            assert_eq!(trusting, expected, "{}: the climbs of a sound tree", self.told(&call));
+            assert_eq!(trusting, expected, "{}: the ways down in a sound tree", self.told(&call));
         } else {
             seen.trusted.count_cell(trusting);
         }
@@ -399,20 +392,22 @@ impl Given {
         let told = || self.told(&call);
         self.keys.assert_holds(&self.tables.keys, "tree's keys", &told);
         self.distances.assert_holds(&self.tables.distances, "tree's distances", &told);
+        self.firsts.assert_holds(&self.tables.firsts, "tree's first children", &told);
         self.leaves.assert_holds(&self.tables.leaves, "tree's leaves", &told);
     }
 
     /// A call with the tree that it was given, for a message.
     fn told(&self, call: &impl Display) -> String {
-        let Tables { keys, distances, leaves } = &self.tables;
-        let (first, some) = (keys.len().min(30), leaves.len().min(30));
+        let Tables { keys, distances, firsts, leaves } = &self.tables;
         format!(
-            "{call} of {} keys {:?}.., {} distances and {} leaves {:?}..",
+            "{call} of {} keys {:?}.., {} distances, {} first children {:?}.. and {} leaves {:?}..",
             keys.len(),
-            &keys[..first],
+            &keys[..keys.len().min(30)],
             distances.len(),
+            firsts.len(),
+            &firsts[..firsts.len().min(30)],
             leaves.len(),
-            &leaves[..some]
+            &leaves[..leaves.len().min(30)]
         )
     }
 }

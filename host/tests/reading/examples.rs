@@ -1,7 +1,7 @@
 //! Document 01's examples of reading, and the safe functions as a host uses them.
 
 use crate::calls::Given;
-use mittenhelm::{distance, slab, start, DualCell, Lookup, State, Tables, Tree};
+use mittenhelm::{distance, most_vertices, slab, start, DualCell, Lookup, State, Tables, Tree, STATE_WORDS};
 use oracle_answers::fields::cell_at;
 use oracle_answers::inputs::Random;
 use oracle_answers::model::reading::{self, Reading};
@@ -9,10 +9,13 @@ use oracle_answers::trees::{self, grown, GROWTHS};
 
 const MIDDLE: u64 = 0xf000_0000_0000_0000;
 
+const ROOT: Tree = Tree { keys: &[1], distances: &[2.0], firsts: &[0], leaves: &[1] };
+
 /// Tables in which a build was finished.
 struct Built {
     keys: Vec<u64>,
     distances: Vec<f32>,
+    firsts: Vec<u16>,
     leaves: Vec<u64>,
     queue: Vec<u64>,
     state: State,
@@ -23,12 +26,13 @@ impl Built {
         let mut built = Built {
             keys: vec![0; 100],
             distances: vec![0.0; 110],
+            firsts: vec![7; 105],
             leaves: vec![0; 120],
             queue: vec![0; 130],
-            state: State([0; 8]),
+            state: State([0; STATE_WORDS]),
         };
-        let mut tables =
-            Tables { keys: &mut built.keys, distances: &mut built.distances, leaves: &mut built.leaves, queue: &mut built.queue };
+        let Built { keys, distances, firsts, leaves, queue, .. } = &mut built;
+        let mut tables = Tables { keys, distances, firsts, leaves, queue };
         let (mut state, mut request) = start(bound, &tables).expect("a bound up to 15");
         assert!(state.tree(&tables).is_none());
         while let Some(next) = distance(&mut state, &mut tables, field(request.key)).expect("room enough") {
@@ -40,8 +44,8 @@ impl Built {
     }
 
     fn read<T>(&mut self, read: impl Fn(Tree) -> T) -> T {
-        let Built { keys, distances, leaves, queue, state } = self;
-        read(state.tree(&Tables { keys, distances, leaves, queue }).expect("a finished build"))
+        let Built { keys, distances, firsts, leaves, queue, state } = self;
+        read(state.tree(&Tables { keys, distances, firsts, leaves, queue }).expect("a finished build"))
     }
 }
 
@@ -63,6 +67,20 @@ fn counted(tree: Tree) -> [usize; 3] {
 fn nodes_leaves_and_vertices() {
     assert_eq!(Built::new(2, |_| 1.0).read(counted), [73, 64, 27]);
     assert_eq!(Built::new(3, at_64).read(counted), [81, 71, 34]);
+}
+
+/// Room for all vertices that so many nodes could have: those that there are come first, and the places behind them stay.
+#[test]
+fn room_for_the_most_vertices() {
+    assert_eq!([0, 1, 8, 9, 73, 81, 4096].map(most_vertices), [0, 0, 0, 19, 171, 190, 9709]);
+    Built::new(3, at_64).read(|tree| {
+        for places in [34, most_vertices(81) - 1, most_vertices(81)] {
+            let (mut vertices, mut levels) = (vec![7; places], vec![7; places]);
+            assert_eq!(tree.list(0, &mut vertices, &mut levels), Ok(34));
+            assert!(vertices[34..].iter().all(|&vertex| vertex == 7) && levels[34..].iter().all(|&level| level == 7));
+            assert!(vertices[..34].iter().zip(&levels).all(|(&vertex, &level)| mittenhelm::is_inner(vertex, level.into())));
+        }
+    });
 }
 
 #[test]
@@ -90,6 +108,7 @@ fn the_examples_by_the_text() {
     let mut built = Built::new(3, at_64);
     built.read(|tree| {
         assert_eq!((tree.keys, tree.leaves), (&given.tables.keys[..], &given.tables.leaves[..]));
+        assert_eq!(tree.firsts, given.tables.firsts);
         assert!(tree.distances.iter().map(|d| d.to_bits()).eq(given.tables.distances.iter().copied()));
     });
     assert_eq!(given.vertices().len(), 34);
@@ -103,8 +122,7 @@ fn lookups() {
     assert_eq!(look_up(u64::MAX), Ok(Lookup::Found { key: 127, distance: 1.0, tried: 20 }));
     assert_eq!(look_up(1), Ok(Lookup::Nothing { tried: 0 }));
     assert_eq!(look_up(16), Err(1));
-    let root = Tree { keys: &[1], distances: &[2.0], leaves: &[1] };
-    assert_eq!(root.look_up(u64::MAX), Ok(Lookup::Nothing { tried: 21 }));
+    assert_eq!(ROOT.look_up(u64::MAX), Ok(Lookup::Nothing { tried: 21 }));
 }
 
 #[test]
@@ -112,12 +130,15 @@ fn refusals_in_words() {
     let told = |refused: Result<(), mittenhelm::Refusal>| {
         refused.map_or_else(|refusal| refusal.to_string(), |()| "accepted".to_string())
     };
-    let root = Tree { keys: &[1], distances: &[2.0], leaves: &[1] };
+    let root = ROOT;
     let none = Tree { leaves: &[], ..root };
     assert!(root.sound() && !none.sound());
     assert_eq!(root.checked().map(|checked| checked.tree().keys), Ok(root.keys));
     assert_eq!(told(none.checked().map(|_| ())), "refused 11: not a sound tree");
     assert_eq!(told(none.look_up(0).map(|_| ())), "refused 11: not a sound tree");
+    for firsts in [&[][..], &[1], &[0, 0]] {
+        assert_eq!(told(Tree { firsts, ..root }.checked().map(|_| ())), "refused 11: not a sound tree");
+    }
     for broken in [f32::INFINITY, f32::NEG_INFINITY, f32::NAN] {
         assert_eq!(told(Tree { distances: &[broken], ..root }.checked().map(|_| ())), "refused 11: not a sound tree");
     }
@@ -142,8 +163,12 @@ fn a_tree_of_shorter_tables() {
     built.keys.truncate(73);
     assert_eq!(built.read(|tree| tree.sound()), true);
     built.keys.truncate(72);
-    let Built { keys, distances, leaves, queue, state } = &mut built;
-    assert!(state.tree(&Tables { keys, distances, leaves, queue }).is_none());
+    let Built { keys, distances, firsts, leaves, queue, state } = &mut built;
+    assert!(state.tree(&Tables { keys, distances, firsts, leaves, queue }).is_none());
+    let mut built = Built::new(2, |_| 1.0);
+    built.firsts.truncate(72);
+    let Built { keys, distances, firsts, leaves, queue, state } = &mut built;
+    assert!(state.tree(&Tables { keys, distances, firsts, leaves, queue }).is_none());
 }
 
 /// The safe functions hand on what the C functions say.
@@ -155,11 +180,12 @@ fn wrappers() {
         let mut tables = grown(GROWTHS[round % 3], round / 10, 15, &mut random);
         match round % 10 {
             3 => tables.distances[round / 10 % 9] = random.broken_distance().to_bits(),
+            5 => tables.firsts[0] ^= 1 << random.below(16),
             7 => drop(tables.leaves.pop()),
             _ => {}
         }
         let distances: Vec<f32> = tables.distances.iter().map(|&bits| f32::from_bits(bits)).collect();
-        let tree = Tree { keys: &tables.keys, distances: &distances, leaves: &tables.leaves };
+        let tree = Tree { keys: &tables.keys, distances: &distances, firsts: &tables.firsts, leaves: &tables.leaves };
         let model = Reading::of(&tables);
         assert_eq!(tree.sound(), model.is_sound());
         let checked = tree.checked();

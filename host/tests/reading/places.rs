@@ -53,7 +53,8 @@ fn in_batches_of_every_size() {
     for round in 0..240 {
         let tables = grown(GROWTHS[round % 3], round / 4, 15, &mut random);
         let distances: Vec<f32> = tables.distances.iter().map(|&bits| f32::from_bits(bits)).collect();
-        let tree = Tree { keys: &tables.keys, distances: &distances, leaves: &tables.leaves }.checked().expect("a sound tree");
+        let tree = Tree { keys: &tables.keys, distances: &distances, firsts: &tables.firsts, leaves: &tables.leaves };
+        let tree = tree.checked().expect("a sound tree");
         let vertices = Given::new(tables.clone()).vertices();
         for room in [1, 2, 1 + random.below(60) as usize, vertices.len().max(1), vertices.len() + 1] {
             let all = in_batches(tree, room);

@@ -5,7 +5,7 @@ use std::fmt::Debug;
 /// Places before and behind each lent part, where nothing may be written.
 const FENCE: usize = 8;
 
-/// What a table holds: keys, the bits of distances, or levels.
+/// What a table holds: keys, the bits of distances, places, or levels.
 pub trait Place: Copy + PartialEq + Debug {
     /// What stands in a fence.
     const FENCE: Self;
@@ -17,6 +17,10 @@ impl Place for u64 {
 
 impl Place for u32 {
     const FENCE: Self = 0xfe2c_edfe;
+}
+
+impl Place for u16 {
+    const FENCE: Self = 0xfe2c;
 }
 
 impl Place for u8 {

@@ -11,6 +11,7 @@ pub mod fields;
 pub mod forged;
 pub mod inputs;
 pub mod lent;
+pub mod misled;
 pub mod model;
 pub mod questions;
 pub mod sample;

@@ -8,7 +8,11 @@ use oracle_answers::trees::{grown, GROWTHS};
 /// What the walk finds among keys that have their first children's places.
 fn walked(keys: impl IntoIterator<Item = u64>) -> Vec<(u64, u32)> {
     let keys: Vec<u64> = keys.into_iter().collect();
-    Tables { firsts: firsts_of(&keys), keys, ..Tables::default() }.walked()
+    found(&keys, &firsts_of(&keys))
+}
+
+fn found(keys: &[u64], firsts: &[u16]) -> Vec<(u64, u32)> {
+    Tables { keys: keys.into(), firsts: firsts.into(), ..Tables::default() }.descent().walk().vertices()
 }
 
 #[test]
@@ -16,9 +20,9 @@ fn the_walk_over_a_sound_tree_finds_its_vertices() {
     let mut random = Random::new(1);
     for round in 0..600 {
         let tables = grown(GROWTHS[round % 3], round / 10, 15, &mut random);
-        let reading = Reading::of(&tables);
-        assert_eq!(Ok(tables.walked()), reading.vertices());
-        assert_eq!(Ok(tables.placed()), reading.placed());
+        let (reading, walk) = (Reading::of(&tables), tables.descent().walk());
+        assert_eq!(Ok(walk.vertices()), reading.vertices());
+        assert_eq!(Ok(walk.placed), reading.placed());
     }
 }
 
@@ -27,7 +31,6 @@ fn the_walk_over_a_sound_tree_finds_its_vertices() {
 #[test]
 fn the_walk_over_a_few_keys() {
     let middle = vec![(0xf000_0000_0000_0000, 1)];
-    let found = |keys: &[u64], firsts: &[u16]| Tables { keys: keys.into(), firsts: firsts.into(), ..Tables::default() }.walked();
     for keys in [[1, 8, 9, 10, 11, 12, 13, 14, 15], [0, 8, 8, 8, 8, 8, 8, 8, 8], [8, 8, 1, 0, 9, 9, 9, 5, u64::MAX]] {
         assert_eq!(found(&keys, &[1]), middle, "{keys:?}");
         assert_eq!(found(&keys, &[1; 9]), middle, "{keys:?}");

@@ -1,5 +1,6 @@
 /* What the programs use of <stdint.h>; stdbool.h says why. */
 typedef __UINT8_TYPE__ uint8_t;
+typedef __UINT16_TYPE__ uint16_t;
 typedef __UINT32_TYPE__ uint32_t;
 typedef __UINT64_TYPE__ uint64_t;
 #define UINT64_C(number) __UINT64_C(number)

@@ -213,11 +213,18 @@ fn around(vertex: u64, level: u32, look_up: impl Fn(u64) -> Lookup) -> DualCell 
 }
 
 /// The cells that the way down from the root comes to, each with its place: reading without a check, of tables that needn't hold a
-/// sound tree. A way by steps alone could go round for ever; but a step asks for the child's own key, so each place belongs to one cell.
-pub struct Descent<'a> {
-    distances: &'a [u32],
-    keys_length: usize,
+/// sound tree. A way by places alone could go round for ever; but a step asks for the child's own key, so each place belongs to one cell.
+pub struct Descent {
     cells: BTreeMap<u64, usize>,
+    distances: Vec<u32>,
+    keys_length: usize,
+}
+
+/// What the walk over the cells finds, and how many cells it goes through.
+#[derive(Default)]
+pub struct Walk {
+    pub placed: Vec<Placed>,
+    pub cells: usize,
 }
 
 impl Tables {
@@ -229,7 +236,7 @@ impl Tables {
         Some(first).filter(|_| first % 8 == 1 && eight[0] == 8 * cell)
     }
 
-    pub fn descent(&self) -> Descent<'_> {
+    pub fn descent(&self) -> Descent {
         let mut cells = BTreeMap::new();
         let mut to_go = vec![(1, 0)];
         while let Some((cell, place)) = to_go.pop() {
@@ -239,31 +246,11 @@ impl Tables {
                 to_go.extend(children(cell).zip(first..));
             }
         }
-        Descent { distances: &self.distances, keys_length: self.keys.len(), cells }
-    }
-
-    pub fn look_up_trusting(&self, key: u64) -> Answer<Lookup> {
-        self.descent().look_up_trusting(key)
-    }
-
-    pub fn dual_cell_trusting(&self, vertex: u64, level: u32) -> Answer<DualCell> {
-        self.descent().dual_cell_trusting(vertex, level)
-    }
-
-    /// Every vertex that the walk over the cells finds, with its level.
-    pub fn walked(&self) -> Vec<(u64, u32)> {
-        self.placed().iter().map(|at| (at.vertex, at.level)).collect()
-    }
-
-    /// The same with the places of the nodes round each.
-    pub fn placed(&self) -> Vec<Placed> {
-        let mut found = Vec::new();
-        self.descent().go_over(0, 1, &mut found);
-        found
+        Descent { cells, distances: self.distances.clone(), keys_length: self.keys.len() }
     }
 }
 
-impl Descent<'_> {
+impl Descent {
     /// A step leads down from the cell: its children were come to.
     fn is_split(&self, cell: u64) -> bool {
         self.cells.contains_key(&(8 * cell))
@@ -308,20 +295,34 @@ impl Descent<'_> {
         Some(self.over(cell(level, at)))
     }
 
+    pub fn walk(&self) -> Walk {
+        let mut walk = Walk::default();
+        self.go_over(0, 1, &mut walk);
+        walk
+    }
+
     /// The walk over the cells from the root down, in the words of crates/vertices/specs/Walk.antt. It goes into the children of a cell
     /// with a split entry of its own level, down to the limit. Else it ends: the cell's low corner is found if all entries are nodes and
     /// one has the cell's own level. What a parent found isn't handed down.
-    fn go_over(&self, at: u32, cell: u64, found: &mut Vec<Placed>) {
+    fn go_over(&self, at: u32, cell: u64, walk: &mut Walk) {
+        walk.cells += 1;
         let entries = [0, 1, 2, 3, 4, 5, 6, 7].map(|corner| self.entry(at, cell, corner));
         let mut of_level = entries.iter().flatten().filter(|&&(key, _)| level(key) == at);
         if of_level.clone().any(|&(key, _)| self.is_split(key)) {
             if at < GREATEST_LEVEL {
-                children(cell).for_each(|child| self.go_over(at + 1, child, found));
+                children(cell).for_each(|child| self.go_over(at + 1, child, walk));
             }
         } else if entries.iter().all(Option::is_some) && of_level.next().is_some() {
             let places = entries.map(|entry| entry.map_or(0, |(_, place)| place));
-            found.push(Placed { vertex: cell * power_of_8(DEEPEST - at) as u64, level: at, places });
+            walk.placed.push(Placed { vertex: cell * power_of_8(DEEPEST - at) as u64, level: at, places });
         }
+    }
+}
+
+impl Walk {
+    /// The vertices with their levels alone.
+    pub fn vertices(&self) -> Vec<(u64, u32)> {
+        self.placed.iter().map(|at| (at.vertex, at.level)).collect()
     }
 }
 
