@@ -10,14 +10,15 @@ use oracle_answers::fields::{field, KINDS};
 use oracle_answers::forged::{garbage, some_lengths, Forged, WORDS};
 use oracle_answers::inputs::Random;
 use oracle_answers::lent::Fenced;
-use oracle_answers::model::build::{self, Request, STATE_WORDS};
+use oracle_answers::model::build::{self, Request, STATE_WORDS, TABLES};
 use oracle_answers::model::{level, reading, Answer};
 
-/// A state and four tables as they are lent.
+/// A state and the tables as they are lent.
 struct Lent {
     state: Fenced<u64>,
     keys: Fenced<u64>,
     distances: Fenced<u32>,
+    firsts: Fenced<u16>,
     leaves: Fenced<u64>,
     queue: Fenced<u64>,
 }
@@ -28,16 +29,18 @@ impl Lent {
             state: Fenced::new(words),
             keys: Fenced::new(&tables.keys),
             distances: Fenced::new(&tables.distances),
+            firsts: Fenced::new(&tables.firsts),
             leaves: Fenced::new(&tables.leaves),
             queue: Fenced::new(&tables.queue),
         }
     }
 
-    fn differences(&self, Forged { words, tables }: &Forged) -> [Option<String>; 5] {
+    fn differences(&self, Forged { words, tables }: &Forged) -> [Option<String>; 1 + TABLES] {
         [
             self.state.difference(words, "state"),
             self.keys.difference(&tables.keys, "node keys"),
             self.distances.difference(&tables.distances, "node distances"),
+            self.firsts.difference(&tables.firsts, "first children"),
             self.leaves.difference(&tables.leaves, "leaf keys"),
             self.queue.difference(&tables.queue, "queue"),
         ]
@@ -75,10 +78,11 @@ impl Asked {
 
 fn told_all(Forged { words, tables }: &Forged) -> String {
     format!(
-        "state of {}, keys of {}, distances of {}, leaves of {}, queue of {}",
+        "state of {}, keys of {}, distances of {}, first children of {}, leaves of {}, queue of {}",
         told(words),
         told(&tables.keys),
         told(&tables.distances),
+        told(&tables.firsts),
         told(&tables.leaves),
         told(&tables.queue)
     )
@@ -87,7 +91,8 @@ fn told_all(Forged { words, tables }: &Forged) -> String {
 /// Starts a build, and hands on what is asked.
 fn begin(case: &mut Case, bound: u32, forged: &mut Forged) -> Result<Answer<Request>, Difference> {
     let (before, mut lent, mut asked) = (forged.clone(), Lent::of(forged), Asked::new());
-    let (keys, distances, leaves, queue) = (lent.keys.part(), lent.distances.part(), lent.leaves.part(), lent.queue.part());
+    let (keys, distances, firsts) = (lent.keys.part(), lent.distances.part(), lent.firsts.part());
+    let (leaves, queue) = (lent.leaves.part(), lent.queue.part());
     let (state, (key, [x, y, z, half])) = (lent.state.lend(), asked.places());
     let said = unsafe {
         mittenhelm_start(
@@ -96,6 +101,8 @@ fn begin(case: &mut Case, bound: u32, forged: &mut Forged) -> Result<Answer<Requ
             keys.len(),
             distances.as_ptr().cast(),
             distances.len(),
+            firsts.as_ptr(),
+            firsts.len(),
             leaves.as_ptr(),
             leaves.len(),
             queue.as_ptr(),
@@ -110,7 +117,7 @@ fn begin(case: &mut Case, bound: u32, forged: &mut Forged) -> Result<Answer<Requ
         )
     };
     let expected = build::start(bound, &forged.tables, &mut forged.words);
-    let differences = [asked.differences(expected.ok()), lent.differences(forged)].concat();
+    let differences = [&asked.differences(expected.ok())[..], &lent.differences(forged)].concat();
     case.judge("start", said, expected.map(|_| ACCEPTED), &differences, || format!("{bound}, {}", told_all(&before)))?;
     Ok(expected)
 }
@@ -119,7 +126,8 @@ fn begin(case: &mut Case, bound: u32, forged: &mut Forged) -> Result<Answer<Requ
 fn give(case: &mut Case, forged: &mut Forged, distance: f32) -> Result<Answer<Option<Request>>, Difference> {
     let (before, mut lent, mut asked) = (forged.clone(), Lent::of(forged), Asked::new());
     let (state, keys, distances) = (lent.state.lend(), lent.keys.lend(), lent.distances.lend());
-    let (leaves, queue, (key, [x, y, z, half])) = (lent.leaves.lend(), lent.queue.lend(), asked.places());
+    let (firsts, leaves, queue) = (lent.firsts.lend(), lent.leaves.lend(), lent.queue.lend());
+    let (key, [x, y, z, half]) = asked.places();
     let said = unsafe {
         mittenhelm_distance(
             state.as_mut_ptr(),
@@ -128,6 +136,8 @@ fn give(case: &mut Case, forged: &mut Forged, distance: f32) -> Result<Answer<Op
             keys.len(),
             distances.as_mut_ptr().cast(),
             distances.len(),
+            firsts.as_mut_ptr(),
+            firsts.len(),
             leaves.as_mut_ptr(),
             leaves.len(),
             queue.as_mut_ptr(),
@@ -146,7 +156,7 @@ fn give(case: &mut Case, forged: &mut Forged, distance: f32) -> Result<Answer<Op
         _ if forged.words[2] == before.words[2] => "split",
         _ => "leaf",
     };
-    let differences = [asked.differences(expected.ok().flatten()), lent.differences(forged)].concat();
+    let differences = [&asked.differences(expected.ok().flatten())[..], &lent.differences(forged)].concat();
     let arguments = || format!("{}, float {:#x}", told_all(&before), distance.to_bits());
     case.judge("distance", said, expected.map(way), &differences, arguments)?;
     Ok(expected)
@@ -164,7 +174,7 @@ fn some_distance(level: u32, random: &mut Random) -> f32 {
     }
 }
 
-/// Any words and any tables; the state has eight words in most cases, and in half of these the lengths of the tables.
+/// Any words and any tables; the state has as many words as one has in most cases, and in half of these the lengths of the tables.
 fn noise(random: &mut Random) -> Forged {
     let lengths = some_lengths(random);
     let mut tables = garbage(lengths);
@@ -185,11 +195,12 @@ fn noise(random: &mut Random) -> Forged {
 fn mutate(forged: &mut Forged, random: &mut Random) {
     let tables = &mut forged.tables;
     let value = number(random);
-    match random.below(12) {
+    match random.below(13) {
         0 => disturb(&mut tables.keys, value, random),
         1 => disturb(&mut tables.distances, value as u32, random),
-        2 => disturb(&mut tables.leaves, value, random),
-        3 => disturb(&mut tables.queue, value, random),
+        2 => disturb(&mut tables.firsts, value as u16, random),
+        3 => disturb(&mut tables.leaves, value, random),
+        4 => disturb(&mut tables.queue, value, random),
         _ if forged.words.len() >= STATE_WORDS => forged.change(random),
         _ => forged.words.resize(STATE_WORDS, value),
     }
@@ -242,7 +253,7 @@ fn give_some(case: &mut Case, mut forged: Forged, distances: u64) -> Checked {
 }
 
 /// A state that fits, or one with up to three changes.
-fn give_forged(case: &mut Case, lengths: [usize; 4], distances: u64) -> Checked {
+fn give_forged(case: &mut Case, lengths: [usize; TABLES], distances: u64) -> Checked {
     let mut forged = Forged::new(lengths, &mut case.random);
     for _ in 0..case.random.below(8).saturating_sub(4) {
         mutate(&mut forged, &mut case.random);
@@ -251,20 +262,20 @@ fn give_forged(case: &mut Case, lengths: [usize; 4], distances: u64) -> Checked 
 }
 
 /// Tables at and above the 4,096 nodes that there can be.
-fn long_lengths(random: &mut Random) -> [usize; 4] {
-    let nodes = [4095, 4096, 4097, 4100];
-    [random.one_of(&nodes), random.one_of(&nodes), random.one_of(&[3583, 3584, 4100]), random.one_of(&[64, 4096, 7 * 4095 + 8])]
+fn long_lengths(random: &mut Random) -> [usize; TABLES] {
+    let [keys, distances, firsts] = [(); 3].map(|()| random.one_of(&[4095, 4096, 4097, 4100]));
+    [keys, distances, firsts, random.one_of(&[3583, 3584, 4100]), random.one_of(&[64, 4096, 7 * 4095 + 8])]
 }
 
 /// Lengths of tables for a build: of the least tree and around it, and longer ones.
-fn lengths_of_build(random: &mut Random) -> [usize; 4] {
-    let (nodes, leaves) = (73, 64);
+fn lengths_of_build(random: &mut Random) -> [usize; TABLES] {
+    let (least, greater) = ([73, 73, 73, 64, 64], [400, 400, 400, 350, 200]);
     match random.below(8) {
         0 => some_lengths(random),
-        1 | 2 => [nodes, nodes, leaves, leaves].map(|length| length + random.below(3) as usize),
-        3 => [nodes, nodes, leaves, leaves].map(|length| length - random.below(2) as usize),
-        4 => [400, 400, random.below(350) as usize, 200],
-        _ => [400, 400, 350, 200].map(|length| length + random.below(9) as usize),
+        1 | 2 => least.map(|length| length + random.below(3) as usize),
+        3 => least.map(|length| length - random.below(2) as usize),
+        4 => [400, 400, 400, random.below(350) as usize, 200],
+        _ => greater.map(|length| length + random.below(9) as usize),
     }
 }
 

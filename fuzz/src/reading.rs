@@ -3,6 +3,7 @@
 use crate::case::{same, told, Case, Checked, Out};
 use crate::inputs::{disturb, number, or_edge, vertex_and_level};
 use crate::outcomes::{yes_or_no, ACCEPTED};
+use mittenhelm::most_vertices;
 use mittenhelm::raw::{
     mittenhelm_cells_trusting, mittenhelm_dual_cell, mittenhelm_dual_cell_trusting, mittenhelm_list, mittenhelm_list_trusting,
     mittenhelm_look_up, mittenhelm_look_up_trusting, mittenhelm_sound,
@@ -11,7 +12,10 @@ use oracle_answers::broken::{change, BREAKS};
 use oracle_answers::fields::{field, KINDS};
 use oracle_answers::inputs::Random;
 use oracle_answers::lent::{levels_before, one_nan, places_before, vertices_before, Fenced};
-use oracle_answers::model::reading::{write_list, write_placed, DualCell, Lookup, Placed, Reading, Tables};
+use oracle_answers::misled::FORGERIES;
+use oracle_answers::model::reading::{
+    firsts_of, write_list, write_placed, Descent, DualCell, Lookup, Placed, Reading, Tables, Walk,
+};
 use oracle_answers::model::{self, level, Answer};
 use oracle_answers::questions::{asked, great_starts, lengths};
 use oracle_answers::trees::{grown, small, Tree, GROWTHS};
@@ -71,20 +75,34 @@ impl Cell {
     }
 }
 
-/// A tree's three tables as C takes them: each a pointer and a length.
-type Parts = (*const u64, usize, *const f32, usize, *const u64, usize);
+/// Calls a function of the boundary with some of a tree's tables first, each a pointer and a length.
+macro_rules! with_tables {
+    ($call:ident, $given:expr, [$($table:ident),*] $(, $more:expr)*) => {
+        unsafe { $call($($given.$table.part().as_ptr().cast(), $given.$table.part().len(),)* $($more),*) }
+    };
+}
+
+/// The same with all four.
+macro_rules! with_tree {
+    ($call:ident, $given:expr $(, $more:expr)*) => {
+        with_tables!($call, $given, [keys, distances, firsts, leaves] $(, $more)*)
+    };
+}
 
 /// A tree that is lent to calls, sound or not, and what the model makes of it.
 pub struct Given {
     keys: Fenced<u64>,
     distances: Fenced<u32>,
+    firsts: Fenced<u16>,
     leaves: Fenced<u64>,
     tables: Tables,
     reading: Reading,
     /// The vertices with their levels; none, where the tree isn't sound.
     vertices: Vec<(u64, u32)>,
-    /// Vertices with the places round them, once they were asked for.
-    placed: RefCell<Option<Rc<Vec<Placed>>>>,
+    /// What one comes to who trusts the tree.
+    descent: Descent,
+    /// The walk of one who trusts it, once it was asked for.
+    walk: RefCell<Option<Rc<Walk>>>,
 }
 
 impl Given {
@@ -93,31 +111,26 @@ impl Given {
         Given {
             keys: Fenced::new(&tables.keys),
             distances: Fenced::new(&tables.distances),
+            firsts: Fenced::new(&tables.firsts),
             leaves: Fenced::new(&tables.leaves),
             vertices: reading.vertices().unwrap_or_default(),
             reading,
+            descent: tables.descent(),
             tables,
-            placed: RefCell::new(None),
+            walk: RefCell::new(None),
         }
     }
 
-    /// What the list of one who trusts the tree has. The model's walk is slow, and of a sound tree it finds the vertices.
-    fn walked(&self) -> Vec<(u64, u32)> {
-        if self.reading.is_sound() {
-            return self.vertices.clone();
-        }
-        self.placed().iter().map(|at| (at.vertex, at.level)).collect()
-    }
-
-    /// The same with the places of the nodes round each.
-    fn placed(&self) -> Rc<Vec<Placed>> {
-        let place = || Rc::new(self.reading.placed().unwrap_or_else(|_| self.tables.placed()));
-        self.placed.borrow_mut().get_or_insert_with(place).clone()
-    }
-
-    fn parts(&self) -> Parts {
-        let (keys, distances, leaves) = (self.keys.part(), self.distances.part(), self.leaves.part());
-        (keys.as_ptr(), keys.len(), distances.as_ptr().cast(), distances.len(), leaves.as_ptr(), leaves.len())
+    /// The vertices that one finds who trusts the tree, with the places of the nodes round each. No forged tree has more of them, or
+    /// keeps the walk longer, than its keys allow; and no place is past their end.
+    fn walk(&self) -> Rc<Walk> {
+        let walk = || {
+            let (walk, keys) = (self.descent.walk(), self.tables.keys.len());
+            assert!(walk.placed.len() <= most_vertices(keys) && walk.cells <= 1 + 64 * (keys / 8), "{}", self.told());
+            assert!(walk.placed.iter().all(|at| at.places.iter().all(|&place| place < keys)), "{}", self.told());
+            Rc::new(walk)
+        };
+        self.walk.borrow_mut().get_or_insert_with(walk).clone()
     }
 
     /// What differs in the tree's own tables, which no call may write to, and in what is handed out.
@@ -125,19 +138,20 @@ impl Given {
         let tables = [
             self.keys.difference(&self.tables.keys, "tree's keys"),
             self.distances.difference(&self.tables.distances, "tree's distances"),
+            self.firsts.difference(&self.tables.firsts, "tree's first children"),
             self.leaves.difference(&self.tables.leaves, "tree's leaves"),
         ];
         handed.into_iter().chain(tables).collect()
     }
 
     fn told(&self) -> String {
-        let Tables { keys, distances, leaves } = &self.tables;
-        format!("keys of {}, distances of {}, leaves of {}", told(keys), told(distances), told(leaves))
+        let Tables { keys, distances, firsts, leaves } = &self.tables;
+        let [distances, firsts] = [told(distances), told(firsts)];
+        format!("keys of {}, distances of {distances}, first children of {firsts}, leaves of {}", told(keys), told(leaves))
     }
 
     fn sound(&self, case: &mut Case) -> Checked {
-        let (keys, k, distances, d, leaves, l) = self.parts();
-        let ours = unsafe { mittenhelm_sound(keys, k, distances, d, leaves, l) };
+        let ours = with_tree!(mittenhelm_sound, self);
         let expected = self.reading.is_sound();
         let differences = self.with_tables([same(&ours, &(expected as u8), "answer")]);
         case.judge("sound", 0, Ok(yes_or_no(expected)), &differences, || self.told())
@@ -154,20 +168,17 @@ impl Given {
 
     fn look_up(&self, case: &mut Case) -> Checked {
         let (key, mut found) = (self.some_key(&mut case.random), Found::new());
-        let (keys, k, distances, d, leaves, l) = self.parts();
         let Found { key: place, distance, tried } = &mut found;
-        let said =
-            unsafe { mittenhelm_look_up(keys, k, distances, d, leaves, l, key, place.place(), distance.float(), tried.place()) };
+        let said = with_tree!(mittenhelm_look_up, self, key, place.place(), distance.float(), tried.place());
         self.judge_look_up(case, "look_up", key, said, found, self.reading.look_up(key))
     }
 
     fn look_up_trusting(&self, case: &mut Case) -> Checked {
         let (key, mut found) = (self.some_key(&mut case.random), Found::new());
-        let (keys, k, distances, d, ..) = self.parts();
         let Found { key: place, distance, tried } = &mut found;
-        let said =
-            unsafe { mittenhelm_look_up_trusting(keys, k, distances, d, key, place.place(), distance.float(), tried.place()) };
-        self.judge_look_up(case, "look_up_trusting", key, said, found, self.tables.look_up_trusting(key))
+        let (place, distance, tried) = (place.place(), distance.float(), tried.place());
+        let said = with_tables!(mittenhelm_look_up_trusting, self, [keys, distances, firsts], key, place, distance, tried);
+        self.judge_look_up(case, "look_up_trusting", key, said, found, self.descent.look_up_trusting(key))
     }
 
     /// Judges a call that looks a key up in the tree.
@@ -199,35 +210,38 @@ impl Given {
         };
         // No table is as long as a great start place.
         let from = if start <= count.max(40) { start } else { random.below(40) as usize };
-        let around = lengths(from, count);
+        let mut around = lengths(from, count);
+        // A list goes over the tree once or twice, as there is room for the most vertices or not.
+        let most = from + most_vertices(self.tables.keys.len());
+        around.extend([most.saturating_sub(1), most, most, most + 1]);
         let enough = from + count + random.below(3) as usize;
         let rooms = [(); 2].map(|()| if random.below(2) == 0 { enough } else { random.one_of(&around) });
         (start, rooms)
     }
 
     fn list(&self, case: &mut Case) -> Checked {
-        let (keys, k, distances, d, leaves, l) = self.parts();
         self.list_by(
             case,
             "list",
             self.vertices.len(),
-            |start, v, m, count| unsafe {
-                mittenhelm_list(keys, k, distances, d, leaves, l, start, v.as_mut_ptr(), v.len(), m.as_mut_ptr(), m.len(), count)
+            |start, v, m, count| {
+                with_tree!(mittenhelm_list, self, start, v.as_mut_ptr(), v.len(), m.as_mut_ptr(), m.len(), count)
             },
             |start, vertices, levels| self.reading.list(start, vertices, levels),
         )
     }
 
     fn list_trusting(&self, case: &mut Case) -> Checked {
-        let (keys, k, ..) = self.parts();
+        let walked = self.walk().vertices();
         self.list_by(
             case,
             "list_trusting",
-            self.walked().len(),
-            |start, v, m, count| unsafe {
-                mittenhelm_list_trusting(keys, k, start, v.as_mut_ptr(), v.len(), m.as_mut_ptr(), m.len(), count)
+            walked.len(),
+            |start, v, m, count| {
+                let (vertices, levels) = (v.as_mut_ptr(), m.as_mut_ptr());
+                with_tables!(mittenhelm_list_trusting, self, [keys, firsts], start, vertices, v.len(), levels, m.len(), count)
             },
-            |start, vertices, levels| write_list(&self.walked(), start, vertices, levels),
+            |start, vertices, levels| write_list(&walked, start, vertices, levels),
         )
     }
 
@@ -266,8 +280,8 @@ impl Given {
     }
 
     fn cells_trusting(&self, case: &mut Case) -> Checked {
-        let placed = self.placed();
-        let from = self.some_from(&placed, &mut case.random);
+        let placed = &self.walk().placed;
+        let from = self.some_from(placed, &mut case.random);
         let (_, [vertices, levels]) = self.some_room(placed.len(), &mut case.random);
         let places = match case.random.below(3) {
             0 => 8 * vertices.min(levels),
@@ -277,12 +291,11 @@ impl Given {
         let (mut vertices, mut levels, mut places) = (vertices_before(vertices), levels_before(levels), places_before(places));
         let (mut our_vertices, mut our_levels, mut our_places) =
             (Fenced::new(&vertices), Fenced::new(&levels), Fenced::new(&places));
-        let ((keys, k, ..), v, l, p) = (self.parts(), our_vertices.lend(), our_levels.lend(), our_places.lend());
-        let said = unsafe {
-            let (vertices, levels, places) = (v.as_mut_ptr(), l.as_mut_ptr(), p.as_mut_ptr());
-            mittenhelm_cells_trusting(keys, k, from, vertices, v.len(), levels, l.len(), places, p.len())
-        };
-        let expected = write_placed(&placed, from, &mut vertices, &mut levels, &mut places);
+        let (v, l, p) = (our_vertices.lend(), our_levels.lend(), our_places.lend());
+        let (v_length, l_length, p_length) = (v.len(), l.len(), p.len());
+        let (v, l, p) = (v.as_mut_ptr(), l.as_mut_ptr(), p.as_mut_ptr());
+        let said = with_tables!(mittenhelm_cells_trusting, self, [keys, firsts], from, v, v_length, l, l_length, p, p_length);
+        let expected = write_placed(placed, from, &mut vertices, &mut levels, &mut places);
         let differences = self.with_tables([
             same(&said, &expected, "count"),
             our_vertices.difference(&vertices, "vertices"),
@@ -312,22 +325,18 @@ impl Given {
 
     fn dual_cell(&self, case: &mut Case) -> Checked {
         let ((vertex, level), mut cell) = (self.some_vertex(&mut case.random), Cell::new());
-        let (keys, k, distances, d, leaves, l) = self.parts();
         let Cell { keys: eight, distances: floats, tried } = &mut cell;
-        let said = unsafe {
-            mittenhelm_dual_cell(keys, k, distances, d, leaves, l, vertex, level, eight.all(), floats.floats(), tried.place())
-        };
+        let said = with_tree!(mittenhelm_dual_cell, self, vertex, level, eight.all(), floats.floats(), tried.place());
         self.judge_dual_cell(case, "dual_cell", (vertex, level), said, cell, self.reading.dual_cell(vertex, level))
     }
 
     fn dual_cell_trusting(&self, case: &mut Case) -> Checked {
         let ((vertex, level), mut cell) = (self.some_vertex(&mut case.random), Cell::new());
-        let (keys, k, distances, d, ..) = self.parts();
         let Cell { keys: eight, distances: floats, tried } = &mut cell;
-        let said = unsafe {
-            mittenhelm_dual_cell_trusting(keys, k, distances, d, vertex, level, eight.all(), floats.floats(), tried.place())
-        };
-        let expected = self.tables.dual_cell_trusting(vertex, level);
+        let (eight, floats, tried) = (eight.all(), floats.floats(), tried.place());
+        let said =
+            with_tables!(mittenhelm_dual_cell_trusting, self, [keys, distances, firsts], vertex, level, eight, floats, tried);
+        let expected = self.descent.dual_cell_trusting(vertex, level);
         self.judge_dual_cell(case, "dual_cell_trusting", (vertex, level), said, cell, expected)
     }
 
@@ -368,6 +377,7 @@ fn some_tree(random: &mut Random) -> Tables {
             tables.keys.sort_unstable();
             tables.keys.dedup();
             tables.distances.resize(tables.keys.len(), 7);
+            tables.firsts = firsts_of(&tables.keys);
             tables
         }
         2 => {
@@ -387,6 +397,11 @@ fn some_tree(random: &mut Random) -> Tables {
         }
         2 | 3 => (0..1 + random.below(3)).for_each(|_| change(&mut tables, random)),
         4 | 5 => (0..1 + random.below(3)).for_each(|_| disturb_one(&mut tables, random)),
+        // Of a tree that isn't sound it isn't known how its first children could lead astray.
+        6 | 7 if tables.is_sound() => {
+            let (_, forge) = random.one_of(&FORGERIES);
+            forge(&mut tables, random);
+        }
         _ => {}
     }
     tables
@@ -394,19 +409,21 @@ fn some_tree(random: &mut Random) -> Tables {
 
 /// Tables of any lengths, of 0 too, that hold such numbers.
 fn noise(random: &mut Random, some: impl Fn(&mut Random) -> u64) -> Tables {
-    let [keys, distances, leaves] = [(); 3].map(|()| random.below(3) * random.below(12));
+    let [keys, distances, firsts, leaves] = [(); 4].map(|()| random.below(3) * random.below(12));
     Tables {
         keys: (0..keys).map(|_| some(random)).collect(),
         distances: (0..distances).map(|_| random.bits() as u32).collect(),
+        firsts: (0..firsts).map(|_| some(random) as u16).collect(),
         leaves: (0..leaves).map(|_| some(random)).collect(),
     }
 }
 
 fn disturb_one(tables: &mut Tables, random: &mut Random) {
     let value = number(random);
-    match random.below(5) {
+    match random.below(7) {
         0 | 1 => disturb(&mut tables.keys, value, random),
         2 | 3 => disturb(&mut tables.leaves, value, random),
+        4 | 5 => disturb(&mut tables.firsts, value as u16, random),
         // Often one of the greatest, or an infinity beside them.
         _ => {
             let distance = random.distance(level(value));
