@@ -6,6 +6,7 @@ pub mod machine;
 pub mod measures;
 pub mod ours;
 pub mod report;
+pub mod rivals;
 pub mod text;
 pub mod timing;
 pub mod trees;

@@ -1,7 +1,7 @@
 //! Runs the benchmark and prints its report: `benchmark [--write [FILE]]`.
 
 use benchmark::measures::Row;
-use benchmark::report::{below_goal, report, with_kept_end};
+use benchmark::report::{below_goal, growing_faster, report, with_kept_end};
 use benchmark::trees::cases;
 use std::env;
 use std::fs;
@@ -55,6 +55,9 @@ fn measured() -> Result<String, String> {
     }
     for measure in below_goal(&rows) {
         eprintln!("below the goal: {}", measure.name());
+    }
+    for measure in growing_faster(&rows) {
+        eprintln!("growing faster than the goal: {}", measure.name());
     }
     Ok(report(&rows))
 }

@@ -2,6 +2,7 @@
 
 use crate::answers::Answers;
 use crate::ours::{look_ups, Batch, Building, Finished, Listing};
+use crate::rivals::{Hashed, Pointed};
 use crate::text::{Integer, Published, Text};
 use crate::timing::{best, run, run_prepared, Run};
 use crate::trees::{Case, LOOK_UPS};
@@ -36,9 +37,11 @@ impl Measure {
     pub fn goal(self) -> Option<f64> {
         match self {
             Measure::Build => Some(4.0),
-            Measure::List => Some(2.0),
-            Measure::ListAndDualCells => Some(3.0),
-            Measure::DualCells | Measure::LookUps | Measure::Soundness => None,
+            Measure::List => Some(6.0),
+            Measure::DualCells => Some(2.0),
+            Measure::ListAndDualCells => Some(10.0),
+            Measure::LookUps => Some(8.0),
+            Measure::Soundness => None,
         }
     }
 
@@ -51,12 +54,46 @@ impl Measure {
     }
 }
 
-/// The times of one measure on one tree, in seconds. The Rust has none where it has no such call or builds another tree.
+/// With what ours is compared: the Rust, and two ways to look up keys that need no library.
+#[derive(Clone, Copy, Debug, PartialEq, Eq)]
+pub enum Rival {
+    Published,
+    Integer,
+    Hashed,
+    Pointed,
+}
+
+pub const RIVALS: [Rival; 4] = [Rival::Published, Rival::Integer, Rival::Hashed, Rival::Pointed];
+
+impl Rival {
+    pub fn name(self) -> &'static str {
+        match self {
+            Rival::Published => "as published",
+            Rival::Integer => "integer level",
+            Rival::Hashed => "hash map",
+            Rival::Pointed => "pointers",
+        }
+    }
+
+    /// Whether the goals are set against it.
+    pub fn is_the_rust(self) -> bool {
+        matches!(self, Rival::Published | Rival::Integer)
+    }
+}
+
+/// The times of one measure on one tree, in seconds. A rival has none where it has no such call; the Rust has none where it builds
+/// another tree.
 #[derive(Clone, Copy, Debug)]
 pub struct Times {
     pub ours: f64,
-    pub published: Option<f64>,
-    pub integer: Option<f64>,
+    /// In the order of the rivals.
+    pub rivals: [Option<f64>; RIVALS.len()],
+}
+
+impl Times {
+    pub fn of(&self, rival: Rival) -> Option<f64> {
+        self.rivals[rival as usize]
+    }
 }
 
 /// What was measured of a tree.
@@ -78,6 +115,7 @@ impl Row {
         if as_published {
             same_answers::<Published>(case, &keys, &ours)?;
         }
+        same_look_ups(case, &keys, &ours)?;
         let times = MEASURES.iter().map(|&measure| times(measure, case, &keys, as_published, least)).collect();
         Ok(Row { case: case.clone(), leaves: ours.leaves.len(), vertices: ours.vertices.len(), times })
     }
@@ -90,19 +128,46 @@ fn same_answers<T: Text>(case: &Case, keys: &[u64], ours: &Answers) -> Result<()
     }
 }
 
+fn same_look_ups(case: &Case, keys: &[u64], ours: &Answers) -> Result<(), String> {
+    let finished = finished(case);
+    let sums = [Hashed::of(finished.tree()).look_ups(keys), Pointed::of(finished.tree()).look_ups(keys)];
+    if sums == [ours.sum_of_look_ups; 2] {
+        return Ok(());
+    }
+    Err(format!("{} of {} nodes: other lookups are not ours", case.field, case.nodes()))
+}
+
 fn times(measure: Measure, case: &Case, keys: &[u64], as_published: bool, least: Duration) -> Times {
     let mut runs = vec![of_ours(measure, case, keys)];
-    let integer = of_text::<Integer>(measure, case, keys).map(|run| runs.push(run)).map(|_| runs.len() - 1);
-    let published = of_text::<Published>(measure, case, keys).filter(|_| as_published);
-    let published = published.map(|run| runs.push(run)).map(|_| runs.len() - 1);
+    let places = RIVALS.map(|rival| {
+        let run = match rival {
+            Rival::Published => of_text::<Published>(measure, case, keys).filter(|_| as_published),
+            Rival::Integer => of_text::<Integer>(measure, case, keys),
+            Rival::Hashed | Rival::Pointed if measure != Measure::LookUps => None,
+            Rival::Hashed => {
+                let hashed = Hashed::of(finished(case).tree());
+                Some(run(move || hashed.look_ups(keys)))
+            }
+            Rival::Pointed => {
+                let pointed = Pointed::of(finished(case).tree());
+                Some(run(move || pointed.look_ups(keys)))
+            }
+        };
+        run.map(|run| runs.push(run)).map(|()| runs.len() - 1)
+    });
     let best = best(&mut runs, least);
-    Times { ours: best[0], published: published.map(|i| best[i]), integer: integer.map(|i| best[i]) }
+    Times { ours: best[0], rivals: places.map(|place| place.map(|place| best[place])) }
+}
+
+fn finished(case: &Case) -> Finished {
+    let mut building = Building::new();
+    let state = building.build_ready(case.bound, &case.distances).expect("room for the tree");
+    building.finished(state)
 }
 
 fn of_ours<'a>(measure: Measure, case: &'a Case, keys: &'a [u64]) -> Run<'a> {
     let (mut building, mut listing, mut batch) = (Building::new(), Listing::new(), Batch::new());
-    let state = building.build_ready(case.bound, &case.distances).expect("room for the tree");
-    let finished: Finished = building.finished(state);
+    let finished = finished(case);
     listing.list(finished.tree());
     match measure {
         Measure::Build => run(move || building.build_ready(case.bound, &case.distances)),

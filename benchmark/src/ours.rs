@@ -1,6 +1,6 @@
 //! What is measured of ours: each call as a host makes it, over tables that it lends.
 
-use mittenhelm::{distance, start, DualCell, Lookup, Refusal, Request, SoundTree, State, Tables, Tree};
+use mittenhelm::{distance, most_vertices, start, DualCell, Lookup, Refusal, Request, SoundTree, State, Tables, Tree};
 
 /// No build has more nodes.
 pub const MOST_NODES: usize = 4096;
@@ -8,13 +8,11 @@ pub const MOST_NODES: usize = 4096;
 /// So many places are enough for the leaves, and for the queue, of every tree of so many nodes.
 const MOST_LEAVES: usize = (7 * MOST_NODES + 1) / 8;
 
-/// More vertices than any tree here has.
-const MOST_VERTICES: usize = 3 * MOST_NODES;
-
 /// The memory of a build.
 pub struct Building {
     keys: Vec<u64>,
     distances: Vec<f32>,
+    firsts: Vec<u16>,
     leaves: Vec<u64>,
     queue: Vec<u64>,
 }
@@ -24,6 +22,7 @@ impl Building {
         Building {
             keys: vec![0; MOST_NODES],
             distances: vec![0.0; MOST_NODES],
+            firsts: vec![0; MOST_NODES],
             leaves: vec![0; MOST_LEAVES],
             queue: vec![0; MOST_LEAVES],
         }
@@ -53,11 +52,17 @@ impl Building {
     pub fn finished(&mut self, state: State) -> Finished {
         let tables = self.tables();
         let tree = state.tree(&tables).expect("a finished build");
-        Finished { keys: tree.keys.to_vec(), distances: tree.distances.to_vec(), leaves: tree.leaves.to_vec() }
+        Finished {
+            keys: tree.keys.to_vec(),
+            distances: tree.distances.to_vec(),
+            firsts: tree.firsts.to_vec(),
+            leaves: tree.leaves.to_vec(),
+        }
     }
 
     fn tables(&mut self) -> Tables<'_> {
-        Tables { keys: &mut self.keys, distances: &mut self.distances, leaves: &mut self.leaves, queue: &mut self.queue }
+        let Building { keys, distances, firsts, leaves, queue } = self;
+        Tables { keys, distances, firsts, leaves, queue }
     }
 }
 
@@ -72,12 +77,13 @@ impl Default for Building {
 pub struct Finished {
     pub keys: Vec<u64>,
     pub distances: Vec<f32>,
+    pub firsts: Vec<u16>,
     pub leaves: Vec<u64>,
 }
 
 impl Finished {
     pub fn tree(&self) -> Tree<'_> {
-        Tree { keys: &self.keys, distances: &self.distances, leaves: &self.leaves }
+        Tree { keys: &self.keys, distances: &self.distances, firsts: &self.firsts, leaves: &self.leaves }
     }
 }
 
@@ -90,12 +96,15 @@ pub struct Listing {
 
 impl Listing {
     pub fn new() -> Self {
-        Listing { vertices: vec![0; MOST_VERTICES], levels: vec![0; MOST_VERTICES], count: 0 }
+        let places = most_vertices(MOST_NODES);
+        Listing { vertices: vec![0; places], levels: vec![0; places], count: 0 }
     }
 
-    /// Lists a tree's vertices, and says how many there are.
+    /// Lists a tree's vertices in room for as many as it could have, and says how many there are.
     pub fn list(&mut self, tree: Tree) -> usize {
-        self.count = tree.list(0, &mut self.vertices, &mut self.levels).expect("a sound tree, and room");
+        let places = most_vertices(tree.keys.len());
+        let listed = tree.list(0, &mut self.vertices[..places], &mut self.levels[..places]);
+        self.count = listed.expect("a sound tree, and room");
         self.count
     }
 

@@ -1,7 +1,7 @@
 //! The report, in Markdown: the text is fixed, the numbers are those of a run.
 
 use crate::machine;
-use crate::measures::{Measure, Row, Times, MEASURES};
+use crate::measures::{Measure, Rival, Row, Times, MEASURES, RIVALS};
 use crate::ours::{BATCH, FORM};
 use crate::trees::{is_near, SIZES};
 
@@ -25,9 +25,11 @@ pub fn report(rows: &[Row]) -> String {
         "## Ratios".to_string(),
         ratios(rows),
         "## Growth".to_string(),
-        "Nanoseconds for each node, or for each lookup, as a geometric mean over the fields, for trees near each number of nodes; and the \
-         exponent e of the best fit of time to nodes^e over all trees."
-            .to_string(),
+        format!(
+            "Nanoseconds for each node, or for each lookup, as a geometric mean over the fields, for trees near each number of nodes; and the \
+             exponent e of the best fit of time to nodes^e over all trees, and to (nodes + vertices)^e: a list and its dual cells can't take \
+             less than there are vertices, and those grow faster than the nodes. The goal for ours is at most {MOST_GROWTH} by the second."
+        ),
         growth(rows),
     ];
     for (i, measure) in MEASURES.iter().enumerate() {
@@ -60,16 +62,19 @@ other, the quickest way there is: so the second is the quicker one, in building 
 - **Build.** The distances are ready in a table, and both sides take the next one for each cell asked for, so that the field costs nothing. Both \
 compute the cell's centre and put it into memory. The Rust's time includes its memory from the heap and giving it back, since it can't do without; ours \
 works in tables that are lent.
-- **List.** Ours writes all vertices, ascending, into lent tables; the Rust makes its hash map.
+- **List.** Ours writes all vertices, ascending, into lent tables, which have room for 19 of each split, so that it goes over the tree once after its \
+check; the Rust makes its hash map.
 - **All dual cells.** For each vertex of the list the eight nodes. Of the Rust this is the search in `extract_surface`, with nothing of the triangles. \
 Both sides sum up the distances found. Ours uses {form}.
 - **List and all dual cells.** Ours asks for vertices with the places of their nodes, {batch} at a time, after one check, and sums up the distances \
 there; the Rust makes its hash map, and searches.
 - **Lookups.** 10,000 random cell keys, each level from 0 to 21 as often as the others: the deepest present of the key and its ancestors. Of the Rust, \
-`get_node` on each of them in turn. Ours uses the same form of call.
+`get_node` on each of them in turn. Ours uses the same form of call. Beside them, what one would write in a few lines without a library, and with no \
+check of the tree: a climb in a `HashMap<u64, f32>` with the standard hasher, which the published Rust's own map has too (\"hash map\"), and the way down \
+through nodes that own their eight children in a `Box` (\"pointers\").
 - **Soundness** is ours alone: whether the tables hold a sound tree.
 - **Times** are the best of batches of calls. The sides take turns, a batch each, until each has had 50 milliseconds at least, so that a change of the \
-machine's speed meets both. A ratio is the Rust's time by ours: above 1, ours is the quicker.",
+machine's speed meets both. A ratio is the other's time by ours: above 1, ours is the quicker. Goals are set against the Rust as published.",
         end = KEPT_FROM.trim_start_matches("## "),
         machine = machine::described(),
         sizes = listed(&SIZES),
@@ -92,26 +97,21 @@ fn grouped(n: usize) -> String {
     }
 }
 
-/// A side's time, if it has one.
-type Side = fn(&Times) -> Option<f64>;
-
-/// The Rust's time by ours, in the trees that have both.
-fn ratios_of(rows: &[Row], measure: usize, rust: Side) -> Vec<f64> {
-    rows.iter().filter_map(|row| Some(rust(&row.times[measure])? / row.times[measure].ours)).collect()
+/// A rival's time by ours, in the trees that have both.
+fn ratios_of(rows: &[Row], measure: usize, rival: Rival) -> Vec<f64> {
+    rows.iter().filter_map(|row| Some(row.times[measure].of(rival)? / row.times[measure].ours)).collect()
 }
 
 fn ratios(rows: &[Row]) -> String {
-    let mut table = Table::new(&["", "goal", "the Rust", "trees", "geometric mean", "least", "greatest"]);
+    let mut table = Table::new(&["", "goal", "against", "trees", "geometric mean", "least", "greatest"]);
     for (i, measure) in MEASURES.iter().enumerate() {
-        let builds: [(&str, Side); 2] =
-            [("as published", |times| times.published), ("with the integer level", |times| times.integer)];
-        for (build, rust) in builds {
-            let ratios = ratios_of(rows, i, rust);
+        for rival in RIVALS {
+            let ratios = ratios_of(rows, i, rival);
             if !ratios.is_empty() {
                 table.add(vec![
                     measure.name().to_string(),
-                    measure.goal().map_or(String::new(), |goal| format!("at least {goal}")),
-                    build.to_string(),
+                    measure.goal().filter(|_| rival.is_the_rust()).map_or(String::new(), |goal| format!("at least {goal}")),
+                    rival.name().to_string(),
                     ratios.len().to_string(),
                     format!("{:.2}", geometric_mean(&ratios)),
                     format!("{:.2}", ratios.iter().copied().fold(f64::INFINITY, f64::min)),
@@ -126,24 +126,40 @@ fn ratios(rows: &[Row]) -> String {
 fn growth(rows: &[Row]) -> String {
     let mut head = vec!["".to_string(), "side".to_string()];
     head.extend(SIZES.iter().map(|&size| grouped(size)));
-    head.push("exponent".to_string());
+    head.extend(["by nodes", "by nodes + vertices"].map(str::to_string));
     let mut table = Table { lines: vec![head] };
-    let sides: [(&str, Side); 3] =
-        [("ours", |times| Some(times.ours)), ("as published", |times| times.published), ("integer level", |times| times.integer)];
+    let sides = [None].into_iter().chain(RIVALS.map(Some));
     for (i, measure) in MEASURES.iter().enumerate() {
-        for (side, time) in sides {
-            let points: Vec<(f64, f64)> =
-                rows.iter().filter_map(|row| Some((row.case.nodes() as f64, time(&row.times[i])?))).collect();
+        for side in sides.clone() {
+            let points = points(rows, i, side, nodes);
             if points.is_empty() {
                 continue;
             }
-            let mut line = vec![measure.name().to_string(), side.to_string()];
+            let mut line = vec![measure.name().to_string(), side.map_or("ours", Rival::name).to_string()];
             line.extend(SIZES.iter().map(|&size| per_item(*measure, &points, size)));
-            line.push(exponent(&points).map_or(String::new(), |e| format!("{e:.2}")));
+            let fits = [exponent(&points), exponent(&self::points(rows, i, side, nodes_and_vertices))];
+            line.extend(fits.map(|fit| fit.map_or(String::new(), |e| format!("{e:.2}"))));
             table.add(line);
         }
     }
     table.text()
+}
+
+/// What a tree's time is held against.
+type Size = fn(&Row) -> f64;
+
+fn nodes(row: &Row) -> f64 {
+    row.case.nodes() as f64
+}
+
+fn nodes_and_vertices(row: &Row) -> f64 {
+    (row.case.nodes() + row.vertices) as f64
+}
+
+/// A side's times, ours where no rival is named, each with its tree's size.
+fn points(rows: &[Row], measure: usize, side: Option<Rival>, size: Size) -> Vec<(f64, f64)> {
+    let time = |times: &Times| side.map_or(Some(times.ours), |rival| times.of(rival));
+    rows.iter().filter_map(|row| Some((size(row), time(&row.times[measure])?))).collect()
 }
 
 /// Nanoseconds for each node or lookup, for the trees near a size.
@@ -157,24 +173,16 @@ fn per_item(measure: Measure, points: &[(f64, f64)], size: usize) -> String {
 }
 
 fn each_tree(rows: &[Row], measure: usize) -> String {
-    let mut table = Table::new(&[
-        "field",
-        "bound",
-        "nodes",
-        "leaves",
-        "vertices",
-        "ours µs",
-        "as published µs",
-        "ratio",
-        "integer level µs",
-        "ratio",
-    ]);
+    let rivals: Vec<Rival> = RIVALS.into_iter().filter(|&rival| !ratios_of(rows, measure, rival).is_empty()).collect();
+    let mut head: Vec<String> = ["field", "bound", "nodes", "leaves", "vertices", "ours µs"].map(str::to_string).into();
+    head.extend(rivals.iter().flat_map(|rival| [format!("{} µs", rival.name()), "ratio".to_string()]));
+    let mut table = Table { lines: vec![head] };
     for row in rows {
         let times = row.times[measure];
         let mut line = vec![row.case.field.to_string()];
         line.extend([row.case.bound as usize, row.case.nodes(), row.leaves, row.vertices].map(grouped));
         line.push(significant(1e6 * times.ours));
-        for time in [times.published, times.integer] {
+        for time in rivals.iter().map(|&rival| times.of(rival)) {
             line.push(time.map_or(String::new(), |time| significant(1e6 * time)));
             line.push(time.map_or(String::new(), |time| format!("{:.2}", time / times.ours)));
         }
@@ -248,10 +256,19 @@ impl Table {
     }
 }
 
+/// Ours shouldn't grow faster than this power of nodes + vertices.
+pub const MOST_GROWTH: f64 = 1.15;
+
+/// Which measures of ours grow faster.
+pub fn growing_faster(rows: &[Row]) -> Vec<Measure> {
+    let grows = |&(i, _): &(usize, Measure)| matches!(exponent(&points(rows, i, None, nodes_and_vertices)), Some(fit) if fit > MOST_GROWTH);
+    MEASURES.iter().copied().enumerate().filter(grows).map(|(_, measure)| measure).collect()
+}
+
 /// Which measures are below their goal, against the Rust as published.
 pub fn below_goal(rows: &[Row]) -> Vec<Measure> {
     let is_below = |&(i, measure): &(usize, Measure)| {
-        let ratios = ratios_of(rows, i, |times| times.published);
+        let ratios = ratios_of(rows, i, Rival::Published);
         let goal = measure.goal().filter(|_| !ratios.is_empty());
         matches!(goal, Some(goal) if geometric_mean(&ratios) < goal)
     };

@@ -1,9 +1,10 @@
 //! The benchmark on small trees, and its comparison of both sides' answers. No time is tested.
 
 use benchmark::answers::Answers;
-use benchmark::measures::{Row, MEASURES};
-use benchmark::ours::Building;
-use benchmark::report::{exponent, geometric_mean, report, with_kept_end, KEPT_FROM};
+use benchmark::measures::{Measure, Row, Times, MEASURES};
+use benchmark::ours::{look_ups, Building};
+use benchmark::report::{below_goal, exponent, geometric_mean, growing_faster, report, with_kept_end, KEPT_FROM};
+use benchmark::rivals::{Hashed, Pointed};
 use benchmark::text::{Integer, Published};
 use benchmark::trees::{cases, is_near, Case, SHAPES, SIZES};
 use oracle_answers::compares_with_text;
@@ -30,7 +31,52 @@ fn runs_on_small_trees() {
         let section = report.split(&heading).nth(1).expect("a table for each measure");
         let table = section.split("\n## ").next().expect("a part");
         assert_eq!(table.lines().filter(|line| line.starts_with("| sphere")).count(), rows.len(), "{report}");
+        // Only lookups have rivals beside the Rust, and soundness has none.
+        let columns = table.lines().find(|line| line.starts_with("| field")).expect("a head").matches("µs").count();
+        let expected = match measure {
+            Measure::LookUps => 4,
+            Measure::Soundness => 1,
+            _ => 2,
+        };
+        assert_eq!(columns, expected, "{table}");
     }
+}
+
+/// The other lookups find what ours finds, key by key: the root and what is below it, at every level and below every leaf.
+#[test]
+fn other_lookups_find_the_same() {
+    let case = case(3);
+    let mut building = Building::new();
+    let state = building.build_ready(case.bound, &case.distances).expect("room for the tree");
+    let finished = building.finished(state);
+    let (tree, mut different) = (finished.tree(), 0);
+    let (hashed, pointed) = (Hashed::of(tree), Pointed::of(tree));
+    for key in finished.keys.iter().copied().chain(case.keys()) {
+        let ours = look_ups(tree, &[key]);
+        assert_eq!([hashed.look_ups(&[key]), pointed.look_ups(&[key])], [ours; 2], "{key}");
+        different += (ours != 0) as usize;
+    }
+    assert!(different > 9_000 + finished.keys.len() / 2, "{different}");
+}
+
+/// A row of a tree of so many nodes and vertices, in which each measure took so long, and the published Rust so many times that.
+fn row(nodes: usize, vertices: usize, ours: f64, ratio: f64) -> Row {
+    let mut case = case(2);
+    case.distances.resize(nodes, 1.0);
+    let times = Times { ours, rivals: [Some(ours * ratio), None, None, None] };
+    Row { case, leaves: 0, vertices, times: vec![times; MEASURES.len()] }
+}
+
+/// Goals are told of by name: ratios by their mean, growth by the fit to nodes + vertices and not to nodes.
+#[test]
+fn goals() {
+    let rows = |ratio| vec![row(100, 100, 1.0, ratio), row(1000, 5000, 30.0, ratio)];
+    assert_eq!(below_goal(&rows(10.0)), vec![]);
+    assert_eq!(below_goal(&rows(9.9)), vec![Measure::ListAndDualCells]);
+    assert_eq!(below_goal(&rows(5.9)), vec![Measure::List, Measure::ListAndDualCells, Measure::LookUps]);
+    assert_eq!(below_goal(&rows(1.9)), MEASURES[..5]);
+    assert_eq!(growing_faster(&rows(1.0)), vec![]);
+    assert_eq!(growing_faster(&[row(100, 100, 1.0, 1.0), row(1000, 1000, 15.0, 1.0)]), MEASURES);
 }
 
 /// A tree that differs in one place differs in its answers, and each part of them counts.
