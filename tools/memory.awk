@@ -73,22 +73,25 @@ END {
         print "| A print lends | places | 4,096 nodes | 1,024 nodes |"
         print "|---|---|---:|---:|"
     }
-    for (room in vertices)
+    for (room in vertices) {
         leaves[room] = int((7 * room + 1) / 8)
+        listed[room] = 19 * int((room - 1) / 8)
+    }
     table("node keys", "n of 8 bytes", 8, 4096, 1024)
     table("node distances", "n of 4 bytes", 4, 4096, 1024)
+    table("first children", "n of 2 bytes", 2, 4096, 1024)
     table("leaf keys", "(7n + 1)/8 of 8 bytes", 8, leaves[4096], leaves[1024])
     sum_up(tree)
     table("queue", "(7n + 1)/8 of 8 bytes", 8, leaves[4096], leaves[1024])
-    table("state and request", "8 words; a key and four floats", 88, 1, 1)
+    table("state and request", "9 words; a key and four floats", 96, 1, 1)
     sum_up(building)
-    table("vertices", "27 + 19(s - 9) of 8 bytes, for s splits", 8, vertices[4096], vertices[1024])
-    table("their levels", "as many of 1 byte", 1, vertices[4096], vertices[1024])
+    table("vertices", "19s of 8 bytes, for s splits", 8, listed[4096], listed[1024])
+    table("their levels", "as many of 1 byte", 1, listed[4096], listed[1024])
     table("a dual cell", "8 keys, 8 distances, the number tried", 100, 1, 1)
     for (room in all)
         reading[room] = tree[room] + all[room] - building[room]
     if (part == "lent") {
-        lends("while building", "the first five", building)
+        lends("while building", "the first six", building)
         lends("while reading", "all but queue, state and request", reading)
         lends("all at once", "nothing lent twice", all)
         exit

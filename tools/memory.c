@@ -12,7 +12,13 @@
 #include <string.h>
 #include <ucontext.h>
 
-enum { MOST_NODES = 4096, MOST_LEAVES = (7 * MOST_NODES + 1) / 8, MOST_VERTICES = 3 * MOST_NODES, LIMIT = 15, DEEPEST = 21 };
+enum {
+    MOST_NODES = 4096,
+    MOST_LEAVES = (7 * MOST_NODES + 1) / 8,
+    MOST_VERTICES = 19 * ((MOST_NODES - 1) / 8),
+    LIMIT = 15,
+    DEEPEST = 21
+};
 
 static void expect(bool holds, const char *what)
 {
@@ -26,6 +32,7 @@ static void expect(bool holds, const char *what)
 
 static uint64_t keys[MOST_NODES], leaves[MOST_LEAVES], queue[MOST_LEAVES], state[MITTENHELM_STATE_WORDS];
 static float distances[MOST_NODES];
+static uint16_t firsts[MOST_NODES];
 static uint64_t vertices[MOST_VERTICES];
 static uint8_t levels[MOST_VERTICES];
 static size_t places[8 * MOST_VERTICES];
@@ -119,10 +126,11 @@ static uint64_t answer;
     }                                                                                                                      \
     static struct call call_##name = {"mittenhelm_" #name, (function)mittenhelm_##name, make_##name, 0};
 
-#define BUILDING keys, node_room, distances, node_room, leaves, leaf_room, queue, leaf_room
+#define BUILDING keys, node_room, distances, node_room, firsts, node_room, leaves, leaf_room, queue, leaf_room
 #define REQUEST &key_out, &x_out, &y_out, &z_out, &half_out
-#define NODES keys, node_count, distances, node_count
+#define NODES keys, node_count, distances, node_count, firsts, node_count
 #define TREE NODES, leaves, leaf_count
+#define WAYS keys, node_count, firsts, node_count
 #define LIST 0, vertices, vertex_room, levels, vertex_room, &vertex_count
 #define CELLS vertices, vertex_room, levels, vertex_room, places, 8 * vertex_room
 #define FOUND &key_out, &distance_out, &number_out
@@ -147,8 +155,8 @@ CALL(look_up, (TREE, given, FOUND))
 CALL(list, (TREE, LIST))
 CALL(dual_cell, (TREE, given, level, CELL))
 CALL(look_up_trusting, (NODES, given, FOUND))
-CALL(list_trusting, (keys, node_count, LIST))
-CALL(cells_trusting, (keys, node_count, given, CELLS))
+CALL(list_trusting, (WAYS, LIST))
+CALL(cells_trusting, (WAYS, given, CELLS))
 CALL(dual_cell_trusting, (NODES, given, level, CELL))
 CALL(slab, (given, level, exponent, &number_out))
 
@@ -300,12 +308,18 @@ static void measure_both(struct call *checked, struct call *trusting, uint32_t e
     expect(answer == expected, what);
 }
 
+/* Refused; with room for all that a tree could have, in one pass; and with room for those that there are, in two. */
 static void list(void)
 {
+    size_t count;
+
     vertex_room = 0;
     measure_both(&call_list, &call_list_trusting, MITTENHELM_LIST_FULL, "list without room");
     vertex_room = MOST_VERTICES;
     measure_both(&call_list, &call_list_trusting, MITTENHELM_ACCEPTED, "list");
+    count = vertex_room = vertex_count;
+    measure_both(&call_list, &call_list_trusting, MITTENHELM_ACCEPTED, "list in places that are just enough");
+    expect(vertex_count == count, "the same list");
 }
 
 /* Vertices with their places, in all rooms: none, for one, which is the last of the list that was made before, and for all. */
@@ -328,8 +342,15 @@ static void cells(void)
 /* A list of one who trusts a tree that goes deeper than the limit: the walk ends there, one level deeper than in a sound one. */
 static void list_too_deep(void)
 {
-    for (unsigned child = 0; child < 8; child++)
+    /* The first of the last eight nodes is split. */
+    const size_t parent = node_count - 8;
+
+    expect(keys[parent] == first_cell(LIMIT), "the first cell of level 15");
+    for (unsigned child = 0; child < 8; child++) {
         keys[node_count + child] = first_cell(LIMIT + 1) + child;
+        firsts[node_count + child] = 0;
+    }
+    firsts[parent] = (uint16_t)node_count;
     node_count += 8;
     vertex_room = MOST_VERTICES;
     measure(&call_list_trusting);
@@ -338,6 +359,7 @@ static void list_too_deep(void)
     measure(&call_cells_trusting);
     expect(answer == vertex_count, "cells of a tree that is too deep");
     node_count -= 8;
+    firsts[parent] = 0;
 }
 
 static void look_up(uint32_t expected, const char *what)
@@ -407,6 +429,7 @@ int main(void)
     build(none, 2, MOST_NODES);
     read_all();
     node_count = leaf_count = 1;
+    firsts[0] = 0;
     leaves[0] = 1;
     given = (uint64_t)15 << 60;
     level = 1;
