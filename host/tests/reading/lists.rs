@@ -1,10 +1,11 @@
 //! Lists: every start place and every room around the edge, for both tables. `Given::list` sees to every place.
 
 use crate::calls::{Given, Seen};
+use mittenhelm::most_vertices;
 use oracle_answers::inputs::Random;
 use oracle_answers::model::Answer;
 use oracle_answers::questions::{great_starts, lengths};
-use oracle_answers::trees::{grown, Growth, GROWTHS};
+use oracle_answers::trees::{grown, of_splits, Growth, GROWTHS};
 
 /// Start places, each with lengths of both tables, for a list of so many vertices: for each start of some all lengths around the
 /// edges, and starts so great that none has room.
@@ -96,6 +97,35 @@ fn of_great_trees() {
             assert_eq!(given.list(start, lengths, &mut seen), in_room(count, start, lengths));
         }
     }
+}
+
+/// The cells along the cube's diagonal, without those that touch its outside, after the nine splits of every build: two of them share a
+/// corner at most, so each gives all 19 vertices that a split can. A list with fewer places than 19 of each split has to count first.
+#[test]
+fn of_the_most_vertices() {
+    let mut seen = Seen::default();
+    for splits in [9, 11, 200, 511] {
+        let mut split: Vec<u64> = [1].into_iter().chain(8..16).chain([71, 120]).collect();
+        // Of the eight children of such a cell, the first and the last lie on the diagonal.
+        for next in 9.. {
+            if split.len() >= splits {
+                break;
+            }
+            split.extend([0, 7].map(|child| 8 * split[next] + child));
+        }
+        split.truncate(splits);
+        let given = Given::new(of_splits(&split, |place| place as u32));
+        let (count, most) = (given.vertices().len(), most_vertices(given.tables.keys.len()));
+        assert_eq!((count, most), (27 + 19 * (splits - 9), 19 * splits));
+        for start in [0, 5] {
+            for room in [count - 1, count, 18 * splits - 1, 18 * splits, most - 1, most, most + 1] {
+                for lengths in [[start + room, start + room], [start + room, start + most], [start + most, start + room]] {
+                    assert_eq!(given.list(start, lengths, &mut seen), in_room(count, start, lengths));
+                }
+            }
+        }
+    }
+    seen.assert_refused(24, &[12]);
 }
 
 /// A tree that isn't sound is told of first.

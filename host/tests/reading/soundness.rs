@@ -6,7 +6,7 @@ use oracle_answers::fields::{field, KINDS};
 use oracle_answers::inputs::{first_cell, last_cell, Random, BROKEN_DISTANCES, GREATEST_DISTANCES};
 use oracle_answers::model::level;
 use oracle_answers::model::reading::{firsts_of, Tables};
-use oracle_answers::trees::{grown, small, Growth, Tree};
+use oracle_answers::trees::{grown, of_splits, small, Growth, Tree};
 
 #[test]
 fn each_condition_broken() {
@@ -180,10 +180,7 @@ fn the_deepest_level() {
         for end in [first_cell(deepest), last_cell(deepest), Random::new(deepest as u64).cell_of(deepest)] {
             // All eight children of each ancestor of the end.
             let split: Vec<u64> = (1..=deepest).rev().map(|above| end >> (3 * above)).collect();
-            let keys: Vec<u64> =
-                [1].into_iter().chain(split.iter().flat_map(|key| (0..8).map(move |child| 8 * key + child))).collect();
-            let leaves = keys.iter().copied().filter(|key| !split.contains(key)).collect();
-            let given = Given::new(Tables { distances: vec![0; keys.len()], firsts: firsts_of(&keys), keys, leaves });
+            let given = Given::new(of_splits(&split, |_| 0));
             assert_eq!(given.sound(&mut seen), deepest <= 15, "level {deepest}");
         }
     }

@@ -29,7 +29,7 @@ fn forge_keys(tables: &mut Tables, is: impl Fn(usize) -> bool, mut key: impl FnM
 /// A way to forge a tree that was sound.
 pub type Forge = fn(&mut Tables, &mut Random);
 
-pub const FORGERIES: [(&str, Forge); 16] = [
+pub const FORGERIES: [(&str, Forge); 17] = [
     ("the first eight for all", |tables, _| lead(tables, |_| 1)),
     ("some eight for all", |tables, random| {
         let eight = some_eight(tables.keys.len(), random);
@@ -56,6 +56,13 @@ pub const FORGERIES: [(&str, Forge); 16] = [
     ("no place of a first child", |tables, random| {
         let by = 1 + random.below(7) as u16;
         tables.firsts.iter_mut().for_each(|first| *first = first.wrapping_add(by));
+    }),
+    ("all eights moved on by fewer places", |tables, random| {
+        // Each is led to where it stands, which no step takes for a first child's place.
+        let by = 1 + random.below(7) as usize;
+        tables.keys.splice(1..1, vec![0; by]);
+        tables.distances.splice(1..1, vec![0; by]);
+        tables.firsts = firsts_of(&tables.keys);
     }),
     ("places about the end", |tables, random| {
         let places = tables.keys.len() as u16;

@@ -160,6 +160,15 @@ pub fn grown(growth: Growth, splits: usize, deepest: u32, random: &mut Random) -
     Tables { firsts: firsts_of(&keys), keys, distances, leaves }
 }
 
+/// The tree in which these cells are split, with a distance for each place: sound, if with each cell those above it are split.
+pub fn of_splits(split: &[u64], distance: impl Fn(usize) -> u32) -> Tables {
+    let mut keys: Vec<u64> = split.iter().flat_map(|key| (0..8).map(move |child| 8 * key + child)).collect();
+    keys.push(1);
+    keys.sort_unstable();
+    let leaves = keys.iter().copied().filter(|key| !split.contains(key)).collect();
+    Tables { distances: (0..keys.len()).map(distance).collect(), firsts: firsts_of(&keys), keys, leaves }
+}
+
 /// A tree of a few nodes, often with leaves of level 15.
 pub fn small(random: &mut Random) -> Tables {
     let growth = GROWTHS[random.below(3) as usize];

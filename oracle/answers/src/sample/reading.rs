@@ -19,8 +19,9 @@
 use super::lines::{packed, Sample};
 use crate::inputs::{first_cell, last_cell, BROKEN_DISTANCES, GREATEST_DISTANCES};
 use crate::integer;
-use crate::model::reading::{firsts_of, slab, Lookup, Reading, Tables};
+use crate::model::reading::{slab, Lookup, Reading, Tables};
 use crate::model::{level, vertex};
+use crate::trees::of_splits;
 
 const PUT: u8 = 0x10;
 const SOUND: u8 = 0x11;
@@ -37,13 +38,8 @@ const MIDDLE: u64 = 15 << 60;
 
 /// A sound tree in which these cells are split. Each node has another distance: odd ones first, then small whole numbers.
 fn tree(split: &[u64]) -> Tables {
-    let mut keys: Vec<u64> = split.iter().flat_map(|key| (0..8).map(move |child| 8 * key + child)).collect();
-    keys.push(1);
-    keys.sort_unstable();
     let odd = [0x8000_0000, 0x7f7f_ffff, 0, 1, 0x007f_ffff, 0x8080_0000, 0x8000_0001, 0xff7f_ffff];
-    let distance = |place: usize| odd.get(place).copied().unwrap_or_else(|| (place as f32 - 40.5).to_bits());
-    let leaves = keys.iter().copied().filter(|key| !split.contains(key)).collect();
-    Tables { distances: (0..keys.len()).map(distance).collect(), firsts: firsts_of(&keys), keys, leaves }
+    of_splits(split, |place| odd.get(place).copied().unwrap_or_else(|| (place as f32 - 40.5).to_bits()))
 }
 
 /// The cells above a cell, the root first.
