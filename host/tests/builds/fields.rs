@@ -170,7 +170,7 @@ fn lengths(tree: &Tree, random: &mut Random) -> [usize; TABLES] {
     let mut one_short = needs;
     let one = random.below(TABLES as u64) as usize;
     match random.below(10) {
-        0 | 1 | 2 => needs,
+        0..=2 => needs,
         3 => needs.map(|length| length + random.below(20) as usize),
         4 => needs.map(usize::next_power_of_two),
         5 => [4096, 4100, 4098, 4096, 4000].map(|length| length + random.below(3) as usize),

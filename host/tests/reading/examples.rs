@@ -161,7 +161,7 @@ fn refusals_in_words() {
 fn a_tree_of_shorter_tables() {
     let mut built = Built::new(2, |_| 1.0);
     built.keys.truncate(73);
-    assert_eq!(built.read(|tree| tree.sound()), true);
+    assert!(built.read(|tree| tree.sound()));
     built.keys.truncate(72);
     let Built { keys, distances, firsts, leaves, queue, state } = &mut built;
     assert!(state.tree(&Tables { keys, distances, firsts, leaves, queue }).is_none());

@@ -26,7 +26,7 @@ pub fn rooms(count: usize, starts: &[usize]) -> Vec<(usize, [usize; 2])> {
 /// What a list of so many vertices answers in a room.
 pub fn in_room(count: usize, start: usize, lengths: [usize; 2]) -> Answer<usize> {
     let end = start.checked_add(count);
-    Some(count).filter(|_| lengths.iter().all(|&length| end.map_or(false, |end| end <= length))).ok_or(12)
+    Some(count).filter(|_| lengths.iter().all(|&length| matches!(end, Some(end) if end <= length))).ok_or(12)
 }
 
 fn list_around(given: &Given, starts: &[usize], seen: &mut Seen) {

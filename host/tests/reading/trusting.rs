@@ -150,7 +150,7 @@ fn lists_of_unsound_trees() {
         walked.iter().for_each(|&(_, level)| listed.levels[level as usize] += 1);
         let before = Reading::of(&whole).vertices();
         listed.same += (before.as_ref() == Ok(&walked)) as u64;
-        listed.other += (before.map_or(false, |before| before != walked) && !walked.is_empty()) as u64;
+        listed.other += (matches!(before, Ok(before) if before != walked) && !walked.is_empty()) as u64;
         listed.too_deep += (given.tables.keys.iter().any(|&key| level(key) > 15) && !walked.is_empty()) as u64;
         let (count, start) = (walked.len(), random.below(9) as usize);
         assert_eq!(given.list(start, [start + count, start + count], &mut seen), Err(11));

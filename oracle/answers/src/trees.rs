@@ -105,7 +105,7 @@ pub fn unreached(integer: &Tree, published: &Tree) -> Vec<Option<usize>> {
     let mut places = Vec::with_capacity(integer.nodes.len());
     for node in &integer.nodes {
         let key = node.request.key;
-        let in_both = integer.place_of(key / 8).map_or(true, |parent| alike[parent]);
+        let in_both = integer.place_of(key / 8).into_iter().all(|parent| alike[parent]);
         if !in_both {
             alike.push(false);
             places.push(None);

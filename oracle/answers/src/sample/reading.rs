@@ -319,7 +319,8 @@ impl Sample {
         let end = first_cell(15) + 0o1_2345_6701_2345;
         let put = self.put(tree(&above(end)));
         assert!(self.sound(&put));
-        for key in [end, end ^ 1, 8 * end, end << 18 | 0o777, end / 8, end / 64 ^ 3, last_cell(21), first_cell(21), end << 19] {
+        for key in [end, end ^ 1, 8 * end, (end << 18) | 0o777, end / 8, (end / 64) ^ 3, last_cell(21), first_cell(21), end << 19]
+        {
             self.look_up(&put, key);
         }
         let listed = put.reading().vertices().expect("a sound tree");
