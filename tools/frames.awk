@@ -1,8 +1,7 @@
 # Reads what `objdump -d` prints of a linked program. For each function it prints `frames NAME BYTES LAST`: how deep its stack goes by the
 # instructions that move the stack pointer, its return address and the functions that it calls among them, and the frame of the last of those. A
-# function that calls itself is taken to do so once for each level above the limit, of which there are `levels`, and where a tree is trusted once more,
-# since it may have deeper keys: there it returns at once. A call itself puts down `on_entry` bytes, 8 on x86-64 and 0 on Arm. Functions go by their
-# addresses, since two objects may each have their own of one name.
+# function that calls itself is taken to do so once for each level above the limit, of which there are `levels`. A call itself puts down `on_entry`
+# bytes, 8 on x86-64 and 0 on Arm. Functions go by their addresses, since two objects may each have their own of one name.
 
 function digits(word) {
     gsub(/[^0-9a-fx-]/, "", word)
@@ -27,8 +26,6 @@ function deepen(bytes) {
 function total(at, most, i, below, deepest_last) {
     most = 0
     deepest_last = frame[at]
-    if (at in recursive && trusting)
-        most = frame[at]
     for (i = 1; i <= calls[at]; i++) {
         below = total(callee[at, i])
         if (below > most) {
@@ -87,7 +84,6 @@ $2 ~ /^(stp|str)$/ && /\[sp, #-[0-9a-fx]+\]!/ {
 END {
     for (i = 1; i <= count; i++)
         if (names[i] ~ /^mittenhelm_/) {
-            trusting = names[i] ~ /_trusting$/
             bytes = total(places[i])
             print "frames", names[i], bytes, last
         }
