@@ -14,6 +14,8 @@ use Rattle.morton.specs.Vertex.{sideOf}
 use Rattle.morton.proofs.Levels.{cell-level, eight-mono}
 use Rattle.tree.specs.Tree.{Tree, In, Ascending, Sound}
 use Rattle.tree.specs.Climb.{Deepest}
+use Rattle.tree.specs.Down.{Nodes}
+use Rattle.tree.proofs.Finding.{nodes}
 use Rattle.tree.proofs.Lists.{Asc, asc-weaken, asc-at}
 use Rattle.geometry.specs.Listing.{Listed}
 use Rattle.geometry.proofs.Place.{OnGrid, side, side-cell, side-on-grid, corner-grid}
@@ -58,7 +60,7 @@ unfolding Apart verticesOf
 apart-asc a b [] r = tt
 apart-asc a b (s ∷ ss) (l, r) = (l, asc-weaken (suc (s .vertex)) (s .vertex + 2) (verticesOf ss) (omega arith) (apart-asc (s .vertex + 2) b ss r))
 
-module _ (ks : List ℕ) where
+module _ (ks : Nodes) where
   -- a cell's vertices lie from its low corner on, below the next cell's
   abbrev Within : ℕ → ℕ → List Spot → Type 0
   Within l c ss = Apart (lowCorner l c) (lowCorner l (c + 1)) ss
@@ -137,11 +139,11 @@ apart-split (suc n) a b (s ∷ ss) h (l, r) = let p = apart-split n (s .vertex +
 -- ---- what a host has
 
 -- some vertices with their levels and places
-abbrev cellsAt : List ℕ → List Spot → Cells
+abbrev cellsAt : Nodes → List Spot → Cells
 cellsAt ks ss = cellsOf (verticesOf ss) (levelsOf ss) (placesOf ks ss)
 
 -- the vertices below the number to go on from were got, and the others lie past it
-record Kept (ks : List ℕ) (calls from : ℕ) (got : Cells) : Type 0 where
+record Kept (ks : Nodes) (calls from : ℕ) (got : Cells) : Type 0 where
   past : List Spot
   ahead : List Spot
   both : spotsOf ks ≡ past ++ ahead
@@ -150,7 +152,7 @@ record Kept (ks : List ℕ) (calls from : ℕ) (got : Cells) : Type 0 where
   got-is : got ≡ cellsAt ks past
   few : calls ≤ length past
 
-module _ (ks : List ℕ) (calls from : ℕ) (got : Cells) (k : Kept ks calls from got) where
+module _ (ks : Nodes) (calls from : ℕ) (got : Cells) (k : Kept ks calls from got) where
   since-ahead : since from (spotsOf ks) ≡ k .ahead
   since-ahead =
       ap (since from) (k .both)
@@ -236,7 +238,7 @@ module _ (ks : List ℕ) (calls from : ℕ) (got : Cells) (k : Kept ks calls fro
         ∙ ap (λ (ss : List Spot). cellsAt ks (k .past ++ ss)) (take-all (roomOf was) (k .ahead) (omega (arith, came-count, length-take (roomOf was) (k .ahead))))
         ∙ ap (cellsAt ks) (sym (k .both))
 
-kept-begun : (ks : List ℕ) → Kept ks 0 0 (cellsOf [] [] [])
+kept-begun : (ks : Nodes) → Kept ks 0 0 (cellsOf [] [] [])
 unfolding Apart verticesOf levelsOf placesOf
 kept-begun ks =
     record {
@@ -253,14 +255,14 @@ some-room : (room : ℕ) → 0 < room → (m : ℕ) × (room ≡ suc m)
 some-room zero h = absurd (omega arith)
 some-room (suc m) h = (m, refl)
 
-batches-kept : {ks : List ℕ} {calls from : ℕ} {got : Cells} → Batches ks calls from got → Kept ks calls from got
+batches-kept : {ks : Nodes} {calls from : ℕ} {got : Cells} → Batches ks calls from got → Kept ks calls from got
 batches-kept {ks} begun = kept-begun ks
 batches-kept {ks} (full {calls} {from} {got} was left n b room says all) =
     let s = some-room (roomOf was) room in
     let k = batches-kept b in
     kept-full ks calls from got k was left n says (s .0) (s .1) all _ (omega (arith, last-came ks calls from got k was left n says (s .0) (s .1) all))
 
--- ---- on any table of keys
+-- ---- on any tables
 
 pub of-full-batches : OfFullBatches
 of-full-batches ks calls from got b =
@@ -309,7 +311,7 @@ unfolding largest
 level-none = refl
 
 -- one call with room for just all of them
-one-call : (ks : List ℕ) → CellsSays ks 0 (cellsAt ks (spotsOf ks)) (cellsAt ks (spotsOf ks)) (length (spotsOf ks))
+one-call : (ks : Nodes) → CellsSays ks 0 (cellsAt ks (spotsOf ks)) (cellsAt ks (spotsOf ks)) (length (spotsOf ks))
 unfolding wanted roomOf
 one-call ks = record { count = ap length (sym all); vertices-are = table verticesOf; levels-are = table levelsOf; places-are = table (placesOf ks) }
   where
@@ -331,7 +333,7 @@ one-call ks = record { count = ap length (sym all); vertices-are = table vertice
 
 module _ (t : Tree) (S : Sound t) where
   got : Cells
-  got = cellsAt (t .keys) (spotsOf (t .keys))
+  got = cellsAt (nodes t) (spotsOf (nodes t))
 
   list : Listed (t .leaves) (got .vertices) (got .levels)
   unfolding got
@@ -339,7 +341,7 @@ module _ (t : Tree) (S : Sound t) where
 
   eight-each : length (got .places) ≡ 8 * length (got .vertices)
   unfolding got
-  eight-each = omega (arith, places-length (t .keys) (spotsOf (t .keys)), vertices-length (spotsOf (t .keys)))
+  eight-each = omega (arith, places-length (nodes t) (spotsOf (nodes t)), vertices-length (spotsOf (nodes t)))
 
   shallow : (k : ℕ) → In k (t .leaves) → level k ≤ 20
   shallow k m = omega (arith, S .cells k (S .leaves-childless k m .0) .1)
@@ -378,7 +380,7 @@ module _ (t : Tree) (S : Sound t) where
       unfolding got L v place
       found =
           subst (λ (n : ℕ). Deepest t (sideOf L v i) (getD (t .keys) place 0) (getD (t .distances) place nan) (n - level (getD (t .keys) place 0) + 1)) (level-side i hi)
-          (cells-right t S 0 got got (length (spotsOf (t .keys))) (one-call (t .keys)) j i (omega (arith, vertices-length (spotsOf (t .keys)))) hi)
+          (cells-right t S 0 got got (length (spotsOf (nodes t))) (one-call (nodes t)) j i (omega (arith, vertices-length (spotsOf (nodes t)))) hi)
 
       -- past the end there would be 0, which is no deepest ancestor
       place-inside : place < length (t .keys)
@@ -427,4 +429,4 @@ module _ (t : Tree) (S : Sound t) where
 
 pub of-sound-trees-in-batches : OfSoundTreesInBatches
 unfolding got
-of-sound-trees-in-batches t S calls got d = subst (AllCells t) (sym (of-all-batches (t .keys) calls got d .all)) (all-cells t S)
+of-sound-trees-in-batches t S calls got d = subst (AllCells t) (sym (of-all-batches (nodes t) calls got d .all)) (all-cells t S)

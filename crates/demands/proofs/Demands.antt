@@ -1,4 +1,5 @@
 -- The user's demand 3 on building: specs/Demands.antt, proved. Assumes nothing.
+use Prim.Native.Nat.{ℕ}
 use mathlib.Core.Path.{_≡_, sym, ap, _∙_}
 use mathlib.Core.List.{List, reverse}
 use native.Mathlib.Omega.{arith}
@@ -9,10 +10,11 @@ use Rattle.build.specs.Build.{nodeRoom}
 use Rattle.tree.specs.Tree.{Ascending}
 use Rattle.demands.specs.Run.{nodeKeys, leafKeys}
 use Rattle.demands.specs.Demands.{Building, QueueOf64}
-use Rattle.demands.proofs.Growth.{whole-exactly, grown-leaves, grown-all}
+use Rattle.demands.proofs.Growth.{whole-exactly, grown-leaves, grown-all, firstsOf}
 use Rattle.demands.proofs.Order.{grown-ordered, rises-ascend}
-use Rattle.demands.proofs.Trace.{run-traced}
-use Rattle.demands.proofs.Fits.{nodes-count, covers, count-done, fits-traced, never-10, broken-refused, only-broken}
+use Rattle.demands.proofs.Trace.{nodes-count, run-traced}
+use Rattle.demands.proofs.Fits.{covers, count-done, fits-traced, never-10, broken-refused, only-broken}
+use Rattle.demands.proofs.Soundness.{grown-first}
 use Rattle.demands.proofs.Queue.{done-after, run-of}
 
 pub building : Building
@@ -39,6 +41,11 @@ building bound lent given s t run =
           (whole-exactly bound (nodeKeys s t) (reverse given) up (nodes-count s t h ∙ h .nodes ∙ sym (length-reverse given)) i (omega (arith, nodes-count s t h)));
       leaves = grown-leaves (h .grown);
       cells = grown-all (h .grown);
+      firsts = λ i l.
+          let key : getD (nodeKeys s t) i 0 ≡ getD (t .keys) i 0 = getD-take (s .nodes) (t .keys) i 0 l in
+          let first : getD (firstsOf bound 1 (nodeKeys s t) (reverse given)) i 0 ≡ getD (t .firsts) i 0 =
+          ap (λ (fs : List ℕ). getD fs i 0) (sym (h .firsts)) ∙ getD-take (s .nodes) (t .firsts) i 0 l in
+          rw (← key, ← first) (grown-first (h .grown) i (omega (arith, nodes-count s t h)));
       done = count-done s t h;
       ends = omega (arith, h .nodes, h .node-room, ap nodeRoom (h .lengths-same));
     }

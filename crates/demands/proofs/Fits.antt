@@ -7,40 +7,28 @@ use native.Mathlib.Omega.{arith}
 use native.Mathlib.Decide.{ℕ-discrete}
 use lib.Dec.{eqb, leb, ltb}
 use lib.ListN.{length}
-use lib.Seq.{length-take-le}
 use lib.Ieee.{Float}
 use lib.Ieee.Scale.{finite}
 use borrow.Author.Tests.{eq-eqb, ne-eqb, le-leb, lt-leb}
 use Rattle.morton.specs.Level.{limit, level, Cell}
-use Rattle.build.specs.declared.Lengths.{Lengths}
 use Rattle.build.specs.declared.State.{State}
 use Rattle.build.specs.declared.Answer.the-variants.{Refused}
 use Rattle.build.specs.Build.{Tables, Outcome, lengthsOf, nodeRoom, finest, itemAt, cellTo, sameLengths, countsFit, idleFits, busyFits, fitsAt, fits, fullOf, refusalAt, refusalOf, splitOf, distanceOf}
 use Rattle.build.proofs.Laws.{to-cell, refused}
 use Rattle.geometry.specs.Grid.{Cells, Covers}
-use Rattle.demands.specs.Run.{nodeKeys, leafKeys, itemsFrom, waiting, openCells}
+use Rattle.demands.specs.Run.{leafKeys, itemsFrom, waiting, openCells}
 use Rattle.demands.proofs.Growth.{grown-count}
 use Rattle.demands.proofs.Cover.{cells-right, grown-covers}
 use Rattle.demands.proofs.Rule.{finest-deep}
 use Rattle.demands.proofs.Items.{length-items}
 use Rattle.demands.proofs.Call.{refused-number}
-use Rattle.demands.proofs.Trace.{Traced, open-none, open-asked}
+use Rattle.demands.proofs.Trace.{Traced, open-none, open-asked, nodes-count, leaves-count}
 
 module _ {bound : ℕ} {lent : Tables} {given : List Float} (s : State) (t : Tables) (h : Traced bound lent given s t) where
   -- ---- counts
 
-  pub nodes-count : length (nodeKeys s t) ≡ s .nodes
-  unfolding lengthsOf nodeRoom
-  nodes-count =
-      let r : s .nodes ≤ nodeRoom (lengthsOf t) = subst (λ (z : Lengths). s .nodes ≤ nodeRoom z) (h .tables-same) (h .node-room) in
-      length-take-le (s .nodes) (t .keys) (omega arith)
-
-  pub leaves-count : length (leafKeys s t) ≡ s .leaves
-  unfolding lengthsOf
-  leaves-count = length-take-le (s .leaves) (t .leaves) (subst (λ (z : Lengths). s .leaves ≤ z .leaves) (h .tables-same) (h .leaf-room))
-
   pub open-count : length (openCells s t) + 8 * s .leaves ≡ 7 * s .nodes + 1
-  open-count = omega (arith, grown-count (h .grown), nodes-count, leaves-count)
+  open-count = omega (arith, grown-count (h .grown), nodes-count s t h, leaves-count s t h)
 
   pub count-done : s .asked ≡ 0 → 7 * s .nodes + 1 ≡ 8 * s .leaves
   count-done e = omega (arith, open-count, ap length (open-none s t e))
@@ -64,7 +52,7 @@ module _ {bound : ℕ} {lent : Tables} {given : List Float} (s : State) (t : Tab
   same-fit : sameLengths (s .lengths) (lengthsOf t) ≡ true
   unfolding sameLengths
   same-fit = let e : (n : ℕ) → eqb n n ≡ true = λ n. eq-eqb n n refl in
-      rw (← h .tables-same, e (s .lengths .keys), e (s .lengths .distances), e (s .lengths .leaves), e (s .lengths .queue)) refl
+      rw (← h .tables-same, e (s .lengths .keys), e (s .lengths .distances), e (s .lengths .firsts), e (s .lengths .leaves), e (s .lengths .queue)) refl
 
   counts-fit : countsFit s (lengthsOf t) (nodeRoom (lengthsOf t)) ≡ true
   unfolding countsFit

@@ -87,10 +87,10 @@ next-cell s s' d t t' r e n =
 -- the tables are those of the start
 pub lengths-kept : (s : State) (t : Tables) → fits s t ≡ true → s .lengths ≡ lengthsOf t
 unfolding fits fitsAt
-lengths-kept s t h = let e = same _ _ (and-true (sameLengths (s .lengths) (lengthsOf t)) _ h .0) in each (s .lengths) (lengthsOf t) (e .keys) (e .distances) (e .leaves) (e .queue)
+lengths-kept s t h = let e = same _ _ (and-true (sameLengths (s .lengths) (lengthsOf t)) _ h .0) in each (s .lengths) (lengthsOf t) (e .keys) (e .distances) (e .firsts) (e .leaves) (e .queue)
   where
-    each : (a b : Lengths) → a .keys ≡ b .keys → a .distances ≡ b .distances → a .leaves ≡ b .leaves → a .queue ≡ b .queue → a ≡ b
-    each a b e f g h = λ i. record { keys = e i; distances = f i; leaves = g i; queue = h i }
+    each : (a b : Lengths) → a .keys ≡ b .keys → a .distances ≡ b .distances → a .firsts ≡ b .firsts → a .leaves ≡ b .leaves → a .queue ≡ b .queue → a ≡ b
+    each a b e f g h k = λ i. record { keys = e i; distances = f i; firsts = g i; leaves = h i; queue = k i }
 
 -- no two items that wait share a place
 pub waiting-apart : (s : State) (t : Tables) → fits s t ≡ true → (s .asked ≡ 0 → ⊥) → (i j : ℕ) → i < j → j < 7 * s .nodes - 8 * s .leaves

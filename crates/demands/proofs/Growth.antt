@@ -1,15 +1,16 @@
 -- How the cells of a build grow, without states and tables. Assumes nothing.
-use Prim.Native.Nat.{ℕ, zero, suc, _+_, _*_, _<_}
-use mathlib.Core.Path.{_≡_, refl, sym, _∙_, ap, ap₂}
+use Prim.Native.Nat.{ℕ, zero, suc, _+_, _-_, _*_, _<_}
+use mathlib.Core.Path.{_≡_, refl, sym, _∙_, ap, ap₂, subst}
 use mathlib.Core.Bool.{Bool, true, false, cond, not, true≢false, false≢true}
 use mathlib.Core.Logic.{⊎-elim}
 use mathlib.Core.List.{List, [], _∷_, _++_, append-assoc, append-nil, reverse, reverse-cons}
 use native.Mathlib.Omega.{arith}
 use lib.ListN.{length, getD, length-append, length-reverse}
+use lib.Seq.{getD-append-seam}
 use lib.Ieee.{Float, nan}
 use Rattle.morton.specs.Level.{level}
 use Rattle.morton.specs.Split.{splits}
-use Rattle.tree.specs.Tree.{In, Ascending, Decides}
+use Rattle.tree.specs.Tree.{StandsAt, In, Ascending, Decides}
 use Rattle.tree.proofs.Lists.{in-none, in-head, in-tail, in-cases, ascending-place}
 use Rattle.demands.specs.Run.{childrenFrom, children, wholeOf, childrenOf}
 
@@ -114,7 +115,7 @@ grown-all {bound} (divided {k} {d} {given} {nodes} {leaves} {pending} e g) =
 -- ---- one of the cells
 
 -- one that is left whole is there, with its distance
-whole-into : (bound : ℕ) (ks : List ℕ) (ds : List Float) → length ks ≡ length ds → (i : ℕ) → i < length ks → splits (level (getD ks i 0)) bound (getD ds i nan) ≡ false
+pub whole-into : (bound : ℕ) (ks : List ℕ) (ds : List Float) → length ks ≡ length ds → (i : ℕ) → i < length ks → splits (level (getD ks i 0)) bound (getD ds i nan) ≡ false
     → In (getD ks i 0) (wholeOf bound ks ds)
 unfolding wholeOf
 whole-into bound [] ds e i l f = absurd (omega arith)
@@ -157,6 +158,101 @@ whole-exactly bound ks ds up e i l = go (splits (level (getD ks i 0)) bound (get
         let w = whole-from bound (getD ks i 0) ks ds m in
         let same : w .place ≡ i = ascending-place ks up (w .place) i (w .inside) l (w .here) in
         true≢false (sym f ∙ ap (λ (j : ℕ). splits (level (getD ks j 0)) bound (getD ds j nan)) (sym same) ∙ w .whole)
+
+-- ---- first children
+
+-- The place of the first child of each cell that is split, where all their children stand from a place on; 0 for one that is left whole.
+unfoldable pub firstsOf : ℕ → ℕ → List ℕ → List Float → List ℕ
+firstsOf bound place [] ds = []
+firstsOf bound place (k ∷ ks) [] = []
+firstsOf bound place (k ∷ ks) (d ∷ ds) = cond (splits (level k) bound d) (place ∷ firstsOf bound (place + 8) ks ds) (0 ∷ firstsOf bound place ks ds)
+
+-- one more cell and its distance
+module _ (bound k : ℕ) (d : Float) where
+  -- its place is behind the children so far
+  firstAfter : ℕ → List ℕ → List Float → ℕ
+  firstAfter place ks ds = cond (splits (level k) bound d) (place + length (childrenOf bound ks ds)) 0
+
+  firsts-more : (place : ℕ) (ks : List ℕ) (ds : List Float) → length ks ≡ length ds
+      → firstsOf bound place (ks ++ (k ∷ [])) (ds ++ (d ∷ [])) ≡ firstsOf bound place ks ds ++ (firstAfter place ks ds ∷ [])
+  unfolding firstsOf childrenOf firstAfter
+  firsts-more place [] [] e = go (splits (level k) bound d)
+    where
+      go : (b : Bool) → cond b (place ∷ []) (0 ∷ []) ≡ cond b (place + 0) 0 ∷ []
+      go true = ap (λ (n : ℕ). n ∷ []) (omega arith)
+      go false = refl
+  firsts-more place [] (x ∷ ds) e = absurd (omega arith)
+  firsts-more place (j ∷ ks) [] e = absurd (omega arith)
+  firsts-more place (j ∷ ks) (x ∷ ds) e = go (splits (level j) bound x) (λ p. firsts-more p ks ds (omega arith))
+    where
+      go : (b : Bool)
+          → ((p : ℕ) → firstsOf bound p (ks ++ (k ∷ [])) (ds ++ (d ∷ [])) ≡ firstsOf bound p ks ds ++ (cond (splits (level k) bound d) (p + length (childrenOf bound ks ds)) 0 ∷ []))
+          → cond b (place ∷ firstsOf bound (place + 8) (ks ++ (k ∷ [])) (ds ++ (d ∷ []))) (0 ∷ firstsOf bound place (ks ++ (k ∷ [])) (ds ++ (d ∷ [])))
+          ≡ cond b (place ∷ firstsOf bound (place + 8) ks ds) (0 ∷ firstsOf bound place ks ds)
+          ++ (cond (splits (level k) bound d) (place + length (cond b (children j ++ childrenOf bound ks ds) (childrenOf bound ks ds))) 0 ∷ [])
+      go true h =
+          let n : place + 8 + length (childrenOf bound ks ds) ≡ place + length (children j ++ childrenOf bound ks ds) =
+          omega (arith, length-append (children j) (childrenOf bound ks ds), length-children j 0 8) in
+          ap (λ (xs : List ℕ). place ∷ xs) (h (place + 8))
+          ∙ ap (λ (n : ℕ). (place ∷ firstsOf bound (place + 8) ks ds) ++ (cond (splits (level k) bound d) n 0 ∷ [])) n
+      go false h = ap (λ (xs : List ℕ). 0 ∷ xs) (h place)
+
+child-first : (k : ℕ) (before after : List ℕ) → getD (before ++ (children k ++ after)) (length before) 0 ≡ 8 * k
+unfolding childrenFrom
+child-first k before after = getD-append-seam before (8 * k + 0) (childrenFrom k 1 7 ++ after) 0 ∙ omega arith
+
+-- at the place of a split cell its first child stands
+pub first-stands : (bound : ℕ) (before ks : List ℕ) (ds : List Float) → length ks ≡ length ds → (i place : ℕ) → i < length ks → length before ≡ place
+    → splits (level (getD ks i 0)) bound (getD ds i nan) ≡ true
+    → StandsAt (before ++ childrenOf bound ks ds) (getD (firstsOf bound place ks ds) i 0) (8 * getD ks i 0)
+unfolding firstsOf childrenOf
+first-stands bound before [] ds e i place l b f = absurd (omega arith)
+first-stands bound before (k ∷ ks) [] e i place l b f = absurd (omega arith)
+first-stands bound before (k ∷ ks) (d ∷ ds) e zero place l b f =
+    rw f record {
+      inside = omega (arith, length-append before (children k ++ childrenOf bound ks ds), length-append (children k) (childrenOf bound ks ds), length-children k 0 8);
+      here =
+          ap (λ (n : ℕ). getD (before ++ (children k ++ childrenOf bound ks ds)) n 0) (sym b) ∙ child-first k before (childrenOf bound ks ds);
+    }
+first-stands bound before (k ∷ ks) (d ∷ ds) e (suc i) place l b f =
+    go (splits (level k) bound d) (λ xs n m. first-stands bound xs ks ds (omega arith) i n (omega arith) m f)
+  where
+    go : (r : Bool)
+        → ((xs : List ℕ) (n : ℕ) → length xs ≡ n → StandsAt (xs ++ childrenOf bound ks ds) (getD (firstsOf bound n ks ds) i 0) (8 * getD ks i 0))
+        → StandsAt (before ++ cond r (children k ++ childrenOf bound ks ds) (childrenOf bound ks ds))
+        (getD (cond r (place ∷ firstsOf bound (place + 8) ks ds) (0 ∷ firstsOf bound place ks ds)) (suc i) 0) (8 * getD ks i 0)
+    go true h =
+        subst (λ (xs : List ℕ). StandsAt xs (getD (firstsOf bound (place + 8) ks ds) i 0) (8 * getD ks i 0)) (append-assoc before (children k) (childrenOf bound ks ds))
+        (h (before ++ children k) (place + 8) (omega (arith, length-append before (children k), length-children k 0 8)))
+    go false h = h before place b
+
+-- and that of one that is left whole is 0
+pub first-none : (bound : ℕ) (ks : List ℕ) (ds : List Float) (i place : ℕ) → splits (level (getD ks i 0)) bound (getD ds i nan) ≡ false → getD (firstsOf bound place ks ds) i 0 ≡ 0
+unfolding firstsOf
+first-none bound [] ds i place f = refl
+first-none bound (k ∷ ks) [] i place f = refl
+first-none bound (k ∷ ks) (d ∷ ds) zero place f = rw f refl
+first-none bound (k ∷ ks) (d ∷ ds) (suc i) place f = go (splits (level k) bound d) (λ n. first-none bound ks ds i n f)
+  where
+    go : (r : Bool) → ((n : ℕ) → getD (firstsOf bound n ks ds) i 0 ≡ 0)
+        → getD (cond r (place ∷ firstsOf bound (place + 8) ks ds) (0 ∷ firstsOf bound place ks ds)) (suc i) 0 ≡ 0
+    go true h = h (place + 8)
+    go false h = h place
+
+-- the children so far, eight of each node that is no leaf
+children-count : {bound : ℕ} {given : List Float} {nodes leaves pending : List ℕ} → Grown bound given nodes leaves pending
+    → length (childrenOf bound nodes (reverse given)) ≡ 8 * (length nodes - length leaves)
+children-count {bound} {given} {nodes} {leaves} {pending} g = omega (arith, grown-count g, length-append nodes pending, ap length (grown-all g))
+
+pub firsts-next : {bound : ℕ} {given : List Float} {nodes leaves pending : List ℕ} (k : ℕ) (d : Float) → Grown bound given nodes leaves pending
+    → firstsOf bound 1 (nodes ++ (k ∷ [])) (reverse (d ∷ given))
+    ≡ firstsOf bound 1 nodes (reverse given) ++ (cond (splits (level k) bound d) (8 * (length nodes - length leaves) + 1) 0 ∷ [])
+unfolding firstAfter
+firsts-next {bound} {given} {nodes} {leaves} k d g =
+    let n : 1 + length (childrenOf bound nodes (reverse given)) ≡ 8 * (length nodes - length leaves) + 1 = omega (arith, children-count g) in
+    ap (firstsOf bound 1 (nodes ++ (k ∷ []))) (reverse-cons d given)
+    ∙ firsts-more bound k d 1 nodes (reverse given) (grown-nodes g ∙ sym (length-reverse given))
+    ∙ ap (λ (n : ℕ). firstsOf bound 1 nodes (reverse given) ++ (cond (splits (level k) bound d) n 0 ∷ [])) n
 
 -- ---- one growth for the same distances
 

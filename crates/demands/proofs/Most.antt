@@ -29,8 +29,7 @@ use Rattle.demands.proofs.Rule.{whole-level}
 use Rattle.demands.proofs.Finite.{finite-head, finite-tail}
 use Rattle.demands.proofs.Growth.{Grown}
 use Rattle.demands.proofs.Growth.Grown.{root, kept, divided}
-use Rattle.demands.proofs.Trace.{run-traced}
-use Rattle.demands.proofs.Fits.{nodes-count, leaves-count}
+use Rattle.demands.proofs.Trace.{nodes-count, leaves-count, run-traced}
 use Rattle.demands.proofs.Soundness.{finished-sound}
 
 -- ---- the middles of many cells

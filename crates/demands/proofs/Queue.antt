@@ -23,8 +23,8 @@ use Rattle.demands.proofs.Rule.{split-level, whole-level, finest-least}
 use Rattle.demands.proofs.Finite.{finite-head, finite-tail}
 use Rattle.demands.proofs.Items.{length-items}
 use Rattle.demands.proofs.Call.{run-start, run-on}
-use Rattle.demands.proofs.Trace.{Traced, run-traced, open-none, open-asked}
-use Rattle.demands.proofs.Fits.{covers, leaves-count, open-count, count-done, fits-traced, refusal-none}
+use Rattle.demands.proofs.Trace.{Traced, run-traced, open-none, open-asked, leaves-count}
+use Rattle.demands.proofs.Fits.{covers, open-count, count-done, fits-traced, refusal-none}
 
 -- ---- volumes where the finest level is 2
 

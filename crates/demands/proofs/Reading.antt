@@ -12,11 +12,13 @@ use Rattle.morton.specs.Level.{deepest, level, Cell}
 use Rattle.morton.specs.Vertex.{isInner, sideOf}
 use Rattle.morton.proofs.Levels.{cell-level}
 use Rattle.tree.specs.Tree.{Tree, In, Sound}
+use Rattle.tree.specs.Down.{Nodes}
 use Rattle.tree.specs.Climb.{ancestor, Deepest, triedIn}
 use Rattle.geometry.specs.Grid.{liesIn, Covers}
 use Rattle.geometry.specs.Corner.{StrictlyInside}
 use Rattle.geometry.specs.Listing.{Listed}
 use Rattle.tree.proofs.Lists.{in-cast, ascending-place}
+use Rattle.tree.proofs.Finding.{nodes}
 use Rattle.morton.proofs.Sides.{vertex-inner}
 use Rattle.morton.proofs.Vertices.{inner-level}
 use Rattle.geometry.proofs.Place.{OnGrid, side, side-cell, side-on-grid, corner-grid, grid-below, inner-level as grid-level}
@@ -37,7 +39,7 @@ use Rattle.dual.specs.declared.Dual.{Dual}
 use Rattle.dual.specs.declared.Tried.{Tried}
 use Rattle.dual.specs.declared.Tried.the-variants as tried
 use Rattle.dual.specs.declared.Tried.the-variants.{Keys}
-use Rattle.dual.specs.Dual.{DualSays, sum, DualCell, keyIn, distanceIn, climbAt, Around}
+use Rattle.dual.specs.Dual.{DualSays, sum, DualCell, keyIn, distanceIn, lookupAt, Around}
 use Rattle.dual.proofs.Filling.{around-dual}
 use Rattle.demands.specs.Reading.{Once, LeafCorner, ListsCorners, Answered, HoldsAlone, LeafCell, part, Reading, OfSoundTrees, treeAfter, OfFinishedBuilds}
 use Rattle.demands.proofs.Soundness.{finished-sound, leaves-within, finest-within}
@@ -137,22 +139,22 @@ place-at f none i zero j h = absurd (omega arith)
 place-at f none i (suc n) zero h = ap f (omega arith)
 place-at f none i (suc n) (suc j) h = place-at f none (suc i) n j (omega arith) ∙ ap f (omega arith)
 
--- what the climbs find
-module _ (ks : List ℕ) (ds : List Float) (q : ℕ) where
+-- what the lookups find
+module _ (ns : Nodes) (ds : List Float) (q : ℕ) where
   found-keys : List ℕ
-  found-keys = places (λ i. keyIn (climbAt ks ds q i)) 0 8
+  found-keys = places (λ i. keyIn (lookupAt ns ds q i)) 0 8
 
   found-distances : List Float
-  found-distances = places (λ i. distanceIn (climbAt ks ds q i)) 0 8
+  found-distances = places (λ i. distanceIn (lookupAt ns ds q i)) 0 8
 
-  found-around : Around ks ds q found-keys found-distances (sum (λ i. triedIn (climbAt ks ds q i)) 8)
+  found-around : Around ns ds q found-keys found-distances (sum (λ i. triedIn (lookupAt ns ds q i)) 8)
   unfolding found-keys found-distances
   found-around =
       record {
-        eight-keys = length-places (λ i. keyIn (climbAt ks ds q i)) 0 8;
-        eight-distances = length-places (λ i. distanceIn (climbAt ks ds q i)) 0 8;
-        key = λ i h. place-at (λ i. keyIn (climbAt ks ds q i)) 0 0 8 i h ∙ ap (λ (j : ℕ). keyIn (climbAt ks ds q j)) (omega arith);
-        distance = λ i h. place-at (λ i. distanceIn (climbAt ks ds q i)) nan 0 8 i h ∙ ap (λ (j : ℕ). distanceIn (climbAt ks ds q j)) (omega arith);
+        eight-keys = length-places (λ i. keyIn (lookupAt ns ds q i)) 0 8;
+        eight-distances = length-places (λ i. distanceIn (lookupAt ns ds q i)) 0 8;
+        key = λ i h. place-at (λ i. keyIn (lookupAt ns ds q i)) 0 0 8 i h ∙ ap (λ (j : ℕ). keyIn (lookupAt ns ds q j)) (omega arith);
+        distance = λ i h. place-at (λ i. distanceIn (lookupAt ns ds q i)) nan 0 8 i h ∙ ap (λ (j : ℕ). distanceIn (lookupAt ns ds q j)) (omega arith);
         count = refl;
       }
 
@@ -194,8 +196,8 @@ module _ (t : Tree) (sound : Sound t) (D : ℕ) (deep : D ≤ deepest) (leaf : (
   -- the list that the walk finds; any other list of these leaves is the same
   list-answered : Answered t
   list-answered =
-      let vs = verticesOf (spotsOf (t .keys)) in
-      let ls = levelsOf (spotsOf (t .keys)) in
+      let vs = verticesOf (spotsOf (nodes t)) in
+      let ls = levelsOf (spotsOf (nodes t)) in
       let mine : Listed (t .leaves) vs ls = spots-listed t sound in
       let same : (xs ys : List ℕ) → Listed (t .leaves) xs ys → length xs ≡ length vs = λ xs ys l. ap length (listed-unique (t .leaves) xs ys vs ls l mine .0) in
       record {
@@ -266,7 +268,7 @@ module _ (t : Tree) (sound : Sound t) (D : ℕ) (deep : D ≤ deepest) (leaf : (
 
   found-cell : 1 < length (t .keys) → (v L : ℕ) → v < 2 ^ 64 → isInner L v ≡ true
       → (keys : List ℕ) × (distances : List Float) × (tried : ℕ) × DualCell t L v keys distances tried
-  found-cell more v L small e = (_, _, _, around-dual t sound L v small e more _ _ _ (found-around (t .keys) (t .distances) (v / 8 ^ (deepest - L))))
+  found-cell more v L small e = (_, _, _, around-dual t sound L v small e more _ _ _ (found-around (nodes t) (t .distances) (v / 8 ^ (deepest - L))))
 
   reading : Reading D t
   reading =

@@ -26,10 +26,10 @@ use Rattle.demands.specs.Run.{Run, nodeKeys, leafKeys, waiting, openCell
 use Rattle.demands.specs.Run.Run.{started, asked, finished}
 use Rattle.demands.specs.Reading.{treeAfter}
 use Rattle.demands.specs.Rooms.{RoomFor, nodesWith, EnoughRoom, EnoughLeaves, Finishes, ShortQueue}
-use Rattle.demands.proofs.Growth.{length-children, grown-all, grown-one}
+use Rattle.demands.proofs.Growth.{length-children, grown-all, firstsOf, grown-one}
 use Rattle.demands.proofs.Call.{Took, answer-took, ask-refused, finished-refused, refused-number, run-start, run-on}
-use Rattle.demands.proofs.Trace.{Traced, run-traced, open-none, open-asked}
-use Rattle.demands.proofs.Fits.{nodes-count, leaves-count, open-count, count-done, count-busy, fits-traced, refusal-none}
+use Rattle.demands.proofs.Trace.{Traced, run-traced, open-none, open-asked, nodes-count, leaves-count}
+use Rattle.demands.proofs.Fits.{open-count, count-done, count-busy, fits-traced, refusal-none}
 use Rattle.demands.proofs.Soundness.{in-children}
 use Rattle.demands.proofs.Finite.{finite-head, finite-reverse}
 
@@ -128,7 +128,9 @@ module _ {bound : ℕ} {lent lent' : Tables} {given : List Float} {s s' : State}
   same-tree =
       let keys : nodeKeys s t ≡ nodeKeys s' t' = grown-one (h .grown) (h' .grown) .0 in
       let distances : take (s .nodes) (t .distances) ≡ take (s' .nodes) (t' .distances) = h .distances ∙ sym (h' .distances) in
-      λ i. record { keys = keys i; distances = distances i; leaves = same-leaves i }
+      let firsts : take (s .nodes) (t .firsts) ≡ take (s' .nodes) (t' .firsts) =
+      h .firsts ∙ ap (λ (ks : List ℕ). firstsOf bound 1 ks (reverse given)) keys ∙ sym (h' .firsts) in
+      λ i. record { keys = keys i; distances = distances i; firsts = firsts i; leaves = same-leaves i }
 
 -- the root and the children of the splits so far
 abbrev cellsOf : State → ℕ

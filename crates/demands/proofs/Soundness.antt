@@ -1,29 +1,32 @@
 -- The tree of a finished build is sound. Assumes nothing.
 use Prim.Native.Nat.{ℕ, zero, suc, _+_, _*_, _/_, _≤_, _<_}
-use mathlib.Core.Path.{_≡_, refl, sym, ap, _∙_, subst}
+use mathlib.Core.Path.{_≡_, refl, sym, ap, _∙_, subst, subst₂}
+use mathlib.Core.Bool.{Bool, true, false}
 use mathlib.Core.Logic.{_⊎_, inl, inr, ⊎-elim}
-use mathlib.Core.List.{List, [], _∷_, _++_, append-assoc, append-nil}
+use mathlib.Core.List.{List, [], _∷_, _++_, append-assoc, append-nil, reverse}
 use native.Mathlib.Omega.{arith}
 use native.Mathlib.Decide.{ℕ-discrete}
-use lib.ListN.{length, take, length-append, length-reverse, List·getD-append}
-use lib.Ieee.{Float}
+use lib.ListN.{length, getD, take, length-append, length-reverse, List·getD-append}
+use lib.Seq.{length-take-le}
+use lib.Ieee.{Float, nan}
 use Rattle.morton.specs.Level.{deepest, level, Cell, parentOf}
+use Rattle.morton.specs.Split.{splits}
 use Rattle.morton.proofs.Levels.{eight-pos}
+use Rattle.build.specs.declared.Lengths.{Lengths}
 use Rattle.build.specs.declared.State.{State}
-use Rattle.build.specs.Build.{Tables, finest}
+use Rattle.build.specs.Build.{Tables, lengthsOf, nodeRoom, finest}
 use Rattle.geometry.specs.Grid.{Cells}
 use Rattle.tree.proofs.Lists.{in-cast, in-head, in-tail, in-none, in-cases, in-one, in-left, in-right, in-append}
-use Rattle.tree.specs.Tree.{StandsAt, In, AllChildren, NoChild, AllFinite, Sound}
+use Rattle.tree.specs.Tree.{StandsAt, In, AllChildren, NoChild, AllFinite, FirstChild, Sound}
 use Rattle.demands.specs.Run.{Run, nodeKeys, leafKeys, childrenFrom, children}
 use Rattle.demands.specs.Reading.{treeAfter}
-use Rattle.demands.proofs.Growth.{Grown}
+use Rattle.demands.proofs.Growth.{Grown, grown-nodes, grown-leaves, grown-all, whole-into, firstsOf, first-stands, first-none}
 use Rattle.demands.proofs.Growth.Grown.{root, kept, divided}
 use Rattle.demands.proofs.Cover.{cells-append, cells-right, grown-covers}
 use Rattle.demands.proofs.Order.{Rises, rises-in, rises-ascend, grown-ordered}
 use Rattle.demands.proofs.Rule.{finest-deep}
 use Rattle.demands.proofs.Finite.{finite-reverse}
-use Rattle.demands.proofs.Trace.{Traced, open-none, run-traced}
-use Rattle.demands.proofs.Fits.{nodes-count}
+use Rattle.demands.proofs.Trace.{Traced, open-none, nodes-count, run-traced}
 
 cells-in : {D m : ℕ} (ks : List ℕ) → Cells D ks → In m ks → Cell (level m) m × (level m ≤ D)
 cells-in [] c i = absurd (in-none i)
@@ -139,6 +142,25 @@ grown-akin (divided {k} {d} {given} {nodes} {leaves} {pending} _ g) =
     let e : (nodes ++ (k ∷ [])) ++ (pending ++ children k) ≡ (nodes ++ (k ∷ pending)) ++ children k = simp append-assoc in
     rw e (akin-divided k (nodes ++ (k ∷ pending)) nodes leaves (grown-akin g) (next-newest g) (next-below g))
 
+-- the place beside a node, among all cells
+pub grown-first : {bound : ℕ} {given : List Float} {nodes leaves pending : List ℕ} → Grown bound given nodes leaves pending → (i : ℕ) → i < length nodes
+    → FirstChild (nodes ++ pending) (getD nodes i 0) (getD (firstsOf bound 1 nodes (reverse given)) i 0)
+grown-first {bound} {given} {nodes} {leaves} {pending} g i l = go (splits (level (getD nodes i 0)) bound (getD (reverse given) i nan)) refl
+  where
+    paired : length nodes ≡ length (reverse given)
+    paired = grown-nodes g ∙ sym (length-reverse given)
+
+    go : (b : Bool) → splits (level (getD nodes i 0)) bound (getD (reverse given) i nan) ≡ b
+        → FirstChild (nodes ++ pending) (getD nodes i 0) (getD (firstsOf bound 1 nodes (reverse given)) i 0)
+    go true e =
+        inl (subst (λ (all : List ℕ). StandsAt all (getD (firstsOf bound 1 nodes (reverse given)) i 0) (8 * getD nodes i 0)) (sym (grown-all g))
+        (first-stands bound (1 ∷ []) nodes (reverse given) paired i 1 l refl e))
+    go false e =
+        inr (
+          grown-akin g .childless (getD nodes i 0) (subst (In (getD nodes i 0)) (sym (grown-leaves g)) (whole-into bound nodes (reverse given) paired i l e)),
+          first-none bound nodes (reverse given) i 1 e,
+        )
+
 grown-cells : {bound : ℕ} {given : List Float} {nodes leaves pending : List ℕ} → finest bound ≤ deepest → Grown bound given nodes leaves pending
     → Cells (finest bound) nodes
 grown-cells deep root = tt
@@ -157,6 +179,16 @@ module _ {bound : ℕ} {lent : Tables} {given : List Float} (s : State) (t : Tab
 
   tree-cell : (m : ℕ) → In m (nodeKeys s t) → Cell (level m) m × (level m ≤ finest bound)
   tree-cell m i = cells-in (nodeKeys s t) (grown-cells (finest-deep bound (h .bounded)) tree-grown) i
+
+  tree-firsts : length (nodeKeys s t) ≡ length (take (s .nodes) (t .firsts))
+  unfolding lengthsOf nodeRoom
+  tree-firsts =
+      let r : s .nodes ≤ nodeRoom (lengthsOf t) = subst (λ (z : Lengths). s .nodes ≤ nodeRoom z) (h .tables-same) (h .node-room) in
+      nodes-count s t h ∙ sym (length-take-le (s .nodes) (t .firsts) (omega arith))
+
+  tree-first : (i : ℕ) → i < length (nodeKeys s t) → FirstChild (nodeKeys s t) (getD (nodeKeys s t) i 0) (getD (take (s .nodes) (t .firsts)) i 0)
+  tree-first i l =
+      subst₂ (λ (all fs : List ℕ). FirstChild all (getD (nodeKeys s t) i 0) (getD fs i 0)) (append-nil (nodeKeys s t)) (sym (h .firsts)) (grown-first tree-grown i l)
 
   tree-pairs : length (nodeKeys s t) ≡ length (take (s .nodes) (t .distances))
   tree-pairs = nodes-count s t h ∙ h .nodes ∙ sym (length-reverse given) ∙ sym (ap length (h .distances))
@@ -184,6 +216,8 @@ module _ {bound : ℕ} {lent : Tables} {given : List Float} (s : State) (t : Tab
         leaves-ascending = rises-ascend 0 (o .from) (leafKeys s t) (o .leaves-rise);
         leaves-childless = λ m i. (k .leaf-nodes m i, k .childless m i);
         childless-leaves = λ m i n. ⊎-elim (λ j. j) (λ c. absurd (n 0 (omega arith) (c 0 (omega arith)))) (k .eight m i);
+        as-many-firsts = tree-firsts;
+        first-child = tree-first;
       }
 
 module _ (bound : ℕ) (lent : Tables) (given : List Float) (s : State) (t : Tables) (run : Run bound lent given s t) (done : s .asked ≡ 0) where

@@ -1,6 +1,6 @@
 -- What a run keeps, from its start on. Assumes nothing.
 use Prim.Native.Nat.{ℕ, suc, _+_, _-_, _*_, _≤_, _<_}
-use mathlib.Core.Path.{_≡_, refl, sym, _∙_, ap}
+use mathlib.Core.Path.{_≡_, refl, sym, _∙_, ap, ap₂, subst}
 use mathlib.Core.Bool.{Bool, true, false, cond}
 use mathlib.Core.List.{List, [], _∷_, _++_, reverse, reverse-cons}
 use native.Mathlib.Omega.{arith}
@@ -8,23 +8,24 @@ use native.Mathlib.Numerals.{add-one}
 use native.Mathlib.Decide.{decLt}
 use lib.Dec.{ltb}
 use lib.ListN.{length, take, set, length-set}
-use lib.Seq.{take-suc-set}
+use lib.Seq.{take-suc-set, length-take-le}
 use lib.Ieee.{Float}
 use borrow.Author.Tests.{eq-eqb, ne-eqb, lt-ltb, le-ltb, ltb-false}
 use Rattle.morton.specs.Level.{deepest, limit, level, Cell}
 use Rattle.morton.specs.Split.{splits}
 use Rattle.morton.proofs.Levels.{eight-pos}
+use Rattle.build.specs.declared.Lengths.{Lengths}
 use Rattle.build.specs.declared.Request.{Request}
 use Rattle.build.specs.declared.State.{State}
 use Rattle.build.specs.declared.Answer.the-variants.{Ask, Refused}
-use Rattle.build.specs.Build.{Tables, lengthsOf, nodeRoom, finest, items, itemAt, fullOf, refusalOf, splitOf, queueOf, storedOf, leavesOf, movedOf, startOf}
+use Rattle.build.specs.Build.{Tables, lengthsOf, nodeRoom, finest, items, itemAt, fullOf, refusalOf, splitOf, queueOf, firstOf, storedOf, leavesOf, movedOf, startOf}
 use Rattle.build.proofs.Ring.{length-children}
 use Rattle.build.proofs.Laws.{passed, full-leaf, full-ring, ready}
 use Rattle.tree.specs.Tree.{AllFinite}
 use Rattle.geometry.specs.Grid.{Cells}
 use Rattle.demands.specs.Run.{Run, nodeKeys, leafKeys, itemsFrom, waiting, openCells}
 use Rattle.demands.specs.Run.Run.{started, asked, finished}
-use Rattle.demands.proofs.Growth.{Grown}
+use Rattle.demands.proofs.Growth.{Grown, firstsOf, firsts-next}
 use Rattle.demands.proofs.Growth.Grown.{root, kept, divided}
 use Rattle.demands.proofs.Cover.{cells-right, grown-covers}
 use Rattle.demands.proofs.Rule.{finest-deep}
@@ -47,6 +48,8 @@ pub record Traced (bound : ℕ) (lent : Tables) (given : List Float) (s : State)
   pub nodes : s .nodes ≡ length given
   pub distances : take (s .nodes) (t .distances) ≡ reverse given
   pub known : AllFinite given
+  -- and the place of its first child
+  pub firsts : take (s .nodes) (t .firsts) ≡ firstsOf bound 1 (nodeKeys s t) (reverse given)
   -- room
   pub node-room : s .nodes ≤ nodeRoom (s .lengths)
   pub leaf-room : s .leaves ≤ s .lengths .leaves
@@ -129,7 +132,25 @@ module _ (bound : ℕ) (deep : finest bound ≤ deepest) (given : List Float) (s
       (take-set (t .leaves) (s .leaves) (s .asked) (ready s false d t z .leaf-room refl))
       (rw same (kept rule (grown-asked (p .asks))))
 
+module _ {bound : ℕ} {lent : Tables} {given : List Float} (s : State) (t : Tables) (h : Traced bound lent given s t) where
+  pub nodes-count : length (nodeKeys s t) ≡ s .nodes
+  unfolding lengthsOf nodeRoom
+  nodes-count =
+      let r : s .nodes ≤ nodeRoom (lengthsOf t) = subst (λ (z : Lengths). s .nodes ≤ nodeRoom z) (h .tables-same) (h .node-room) in
+      length-take-le (s .nodes) (t .keys) (omega arith)
+
+  pub leaves-count : length (leafKeys s t) ≡ s .leaves
+  unfolding lengthsOf
+  leaves-count = length-take-le (s .leaves) (t .leaves) (subst (λ (z : Lengths). s .leaves ≤ z .leaves) (h .tables-same) (h .leaf-room))
+
 module _ {bound : ℕ} {lent : Tables} {given : List Float} (s : State) (t : Tables) (d : Float) (h : Traced bound lent given s t) where
+  -- the place that is stored: item j becomes the node at place j + 1
+  first-stored : firstOf s (splitOf s d) ≡ cond (splits (level (s .asked)) bound d) (8 * (length (nodeKeys s t) - length (leafKeys s t)) + 1) 0
+  unfolding firstOf splitOf
+  first-stored =
+      ap (λ (b : ℕ). cond (splits (level (s .asked)) b d) (items (s .nodes) (s .leaves) + 1) 0) (h .bound-same)
+      ∙ ap₂ (λ (n m : ℕ). cond (splits (level (s .asked)) bound d) (items n m + 1) 0) (sym (nodes-count s t h)) (sym (leaves-count s t h))
+
   leaf-room-after : (split : Bool) → fullOf s split ≡ 0 → leavesOf s split ≤ s .lengths .leaves
   unfolding leavesOf
   leaf-room-after true f = h .leaf-room
@@ -155,6 +176,11 @@ module _ {bound : ℕ} {lent : Tables} {given : List Float} (s : State) (t : Tab
             ∙ ap (λ (xs : List Float). xs ++ (d ∷ [])) (h .distances)
             ∙ sym (reverse-cons d given);
         known = finite-more d given (p .known) (h .known);
+        firsts =
+            take-set (t .firsts) (s .nodes) (firstOf s (splitOf s d)) (ready s (splitOf s d) d t z .first-room)
+            ∙ ap₂ (λ (xs : List ℕ) (x : ℕ). xs ++ (x ∷ [])) (h .firsts) first-stored
+            ∙ sym (firsts-next (s .asked) d (h .grown))
+            ∙ ap (λ (ks : List ℕ). firstsOf bound 1 ks (reverse (d ∷ given))) (sym (take-set (t .keys) (s .nodes) (s .asked) (ready s (splitOf s d) d t z .key-room)));
         node-room = rw (h .tables-same) (omega (arith, p .nodes));
         leaf-room = leaf-room-after (splitOf s d) (p .full);
         queue-room = queue-room-after (splitOf s d) (p .full) (p .state .waiting);
@@ -167,7 +193,7 @@ module _ {bound : ℕ} {lent : Tables} {given : List Float} (s : State) (t : Tab
   step-traced k = rw (← k .state, ← k .tables) (moved-traced (k .free))
 
 start-traced : (bound : ℕ) (lent : Tables) (r : Request) (s : State) → startOf bound lent ≡ Ask r s → Traced bound lent [] s lent
-unfolding startOf openCells itemsFrom
+unfolding startOf openCells itemsFrom firstsOf
 start-traced bound lent r s e =
     let v = start-ask (ltb limit bound) _ _ _ _ _ e in
     rw (← v .1)
@@ -179,6 +205,7 @@ start-traced bound lent r s e =
       nodes = refl;
       distances = refl;
       known = finite-none;
+      firsts = refl;
       node-room = omega arith;
       leaf-room = omega arith;
       queue-room = omega arith;

@@ -5,6 +5,7 @@ use mathlib.Core.List.{List, [], _++_, map}
 use lib.Ieee.{nan}
 use lib.ListN.{length, getD, take, drop}
 use Rattle.tree.specs.Tree.{Tree, Ascending, Sound}
+use Rattle.tree.specs.Down.{Nodes, nodesOf}
 use Rattle.geometry.specs.Listing.{Listed}
 use Rattle.vertices.specs.Walk.{spotsOf, verticesOf, levelsOf}
 use Rattle.vertices.specs.Cells.{since, placesOf, Cells, cellsOf, roomOf, CellsSays}
@@ -19,22 +20,22 @@ withBatch got left n =
 
 -- So many calls were made, the next goes on from a number, and this was got. `CellsSays` is what a call promises to answer and to leave. Each may be
 -- lent other tables, with room for one vertex at least; no fewer came than have room.
-pub data Batches (ks : List ℕ) : ℕ → ℕ → Cells → Type 0 where
+pub data Batches (ks : Nodes) : ℕ → ℕ → Cells → Type 0 where
   begun : Batches ks 0 0 (cellsOf [] [] [])
   full : {calls from : ℕ} {got : Cells} (was left : Cells) (n : ℕ)
       → Batches ks calls from got → 0 < roomOf was → CellsSays ks from was left n → roomOf was ≤ n
       → Batches ks (calls + 1) (getD (left .vertices) (n - 1) 0 + 1) (withBatch got left n)
 
 -- The host is done: fewer came than have room.
-pub data Done (ks : List ℕ) : ℕ → Cells → Type 0 where
+pub data Done (ks : Nodes) : ℕ → Cells → Type 0 where
   done : {calls from : ℕ} {got : Cells} (was left : Cells) (n : ℕ)
       → Batches ks calls from got → CellsSays ks from was left n → n < roomOf was
       → Done ks (calls + 1) (withBatch got left n)
 
--- ---- on any table of keys at all
+-- ---- on any tables at all
 
 -- While batches come full.
-pub record WhileFull (ks : List ℕ) (calls from : ℕ) (got : Cells) : Type 0 where
+pub record WhileFull (ks : Nodes) (calls from : ℕ) (got : Cells) : Type 0 where
   -- The vertices are those that were got, and then those from the number on.
   pub rest : verticesOf (spotsOf ks) ≡ got .vertices ++ verticesOf (since from (spotsOf ks))
   -- The last vertex + 1 is a number of 64 bits.
@@ -43,7 +44,7 @@ pub record WhileFull (ks : List ℕ) (calls from : ℕ) (got : Cells) : Type 0 w
   pub moves : calls ≤ length (got .vertices)
 
 -- Once the host is done.
-pub record GotAll (ks : List ℕ) (calls : ℕ) (got : Cells) : Type 0 where
+pub record GotAll (ks : Nodes) (calls : ℕ) (got : Cells) : Type 0 where
   -- It got what one call leaves that has room for all: each vertex once, ascending.
   pub all : got ≡ cellsOf (verticesOf (spotsOf ks)) (levelsOf (spotsOf ks)) (placesOf ks (spotsOf ks))
   pub ascending : Ascending (got .vertices)
@@ -51,10 +52,10 @@ pub record GotAll (ks : List ℕ) (calls : ℕ) (got : Cells) : Type 0 where
   pub ends : calls ≤ length (got .vertices) + 1
 
 abbrev pub OfFullBatches : Type 0
-OfFullBatches = (ks : List ℕ) (calls from : ℕ) (got : Cells) → Batches ks calls from got → WhileFull ks calls from got
+OfFullBatches = (ks : Nodes) (calls from : ℕ) (got : Cells) → Batches ks calls from got → WhileFull ks calls from got
 
 abbrev pub OfAllBatches : Type 0
-OfAllBatches = (ks : List ℕ) (calls : ℕ) (got : Cells) → Done ks calls got → GotAll ks calls got
+OfAllBatches = (ks : Nodes) (calls : ℕ) (got : Cells) → Done ks calls got → GotAll ks calls got
 
 -- ---- of a sound tree
 
@@ -74,4 +75,4 @@ pub record AllCells (t : Tree) (got : Cells) : Type 0 where
       (map (λ (p : ℕ). getD (t .keys) p 0) (placesAt j got)) (map (λ (p : ℕ). getD (t .distances) p nan) (placesAt j got)) tried
 
 abbrev pub OfSoundTreesInBatches : Type 0
-OfSoundTreesInBatches = (t : Tree) → Sound t → (calls : ℕ) (got : Cells) → Done (t .keys) calls got → AllCells t got
+OfSoundTreesInBatches = (t : Tree) → Sound t → (calls : ℕ) (got : Cells) → Done (nodesOf (t .keys) (t .firsts)) calls got → AllCells t got

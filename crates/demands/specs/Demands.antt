@@ -12,7 +12,7 @@ use Rattle.build.specs.declared.State.{State}
 use Rattle.build.specs.declared.Answer.the-variants.{Refused}
 use Rattle.build.specs.Build.{Tables, finest, nodeRoom, lengthsOf, fits, distanceOf}
 use Rattle.geometry.specs.Grid.{Covers}
-use Rattle.tree.specs.Tree.{In, Ascending, AllFinite, Decides}
+use Rattle.tree.specs.Tree.{In, Ascending, AllFinite, FirstChild, Decides}
 use Rattle.demands.specs.Run.{Run, nodeKeys, leafKeys, openCells, wholeOf, childrenOf}
 
 -- What holds after every accepted distance of a build, and at its start.
@@ -39,6 +39,8 @@ pub record AfterEveryDistance (bound : ℕ) (lent : Tables) (given : List Float)
   -- All cells so far are the root and the eight children of each node that is split, in their order: first the nodes, then the cell asked for, then those
   -- that wait.
   pub cells : nodeKeys s t ++ openCells s t ≡ 1 ∷ childrenOf bound (nodeKeys s t) (reverse given)
+  -- Beside each node stands the place of the first of its eight children in that order, or 0 for a leaf.
+  pub firsts : (i : ℕ) → i < s .nodes → FirstChild (nodeKeys s t ++ openCells s t) (getD (t .keys) i 0) (getD (t .firsts) i 0)
   -- With n nodes and m leaves, 7n + 1 = 8m once the build is finished.
   pub done : s .asked ≡ 0 → 7 * s .nodes + 1 ≡ 8 * s .leaves
   -- A build ends: no more distances are accepted than the node room.

@@ -97,7 +97,8 @@ OfSoundTrees = (t : Tree) → Sound t → (D : ℕ) → D ≤ deepest → ((k : 
 
 -- The tree that a build has come to.
 abbrev pub treeAfter : State → Tables → Tree
-treeAfter s t = record { keys = nodeKeys s t; distances = take (s .nodes) (t .distances); leaves = leafKeys s t }
+treeAfter s t =
+    record { keys = nodeKeys s t; distances = take (s .nodes) (t .distances); firsts = take (s .nodes) (t .firsts); leaves = leafKeys s t }
 
 -- For every finished build: its tree is sound, and all the above holds of it over the finest grid.
 abbrev pub OfFinishedBuilds : Type 0
