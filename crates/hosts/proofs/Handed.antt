@@ -71,11 +71,11 @@ hands-0 (Ask r s) words places n = refl
 hands-0 (Finished s) words places n = refl
 hands-0 (Refused k) words places n = absurd (n k refl)
 
--- of eight words it is the number of the build
-pub number-is : (words : List ℕ) (d : Float) (t : Tables) (places : Request) → length words ≡ 8
+-- of nine words it is the number of the build
+pub number-is : (words : List ℕ) (d : Float) (t : Tables) (places : Request) → length words ≡ 9
     → distanceEffect words d t places .said .number ≡ refusalOf (stateOf words) (splitOf (stateOf words) d) d t
 unfolding distanceEffect effectOf distanceOf decideOf acceptOf handOver
-number-is words d t places l = rw (eq-eqb (length words) 8 l) (go (eqb n 0) n refl)
+number-is words d t places l = rw (eq-eqb (length words) 9 l) (go (eqb n 0) n refl)
   where
     s : State
     s = stateOf words
@@ -113,7 +113,7 @@ pub data StartSaid (bound : ℕ) (lent : Tables) (words : List ℕ) (places : Re
 
 pub start-said : (bound : ℕ) (lent : Tables) (words : List ℕ) (places : Request) → StartSaid bound lent words places (startReplies bound lent words places)
 unfolding startReplies startOf handOver
-start-said bound lent words places = go (ltb limit bound) (eqb (length words) 8) refl
+start-said bound lent words places = go (ltb limit bound) (eqb (length words) 9) refl
   where
     root : State
     root = record { bound = bound; nodes = 0; leaves = 0; asked = 1; lengths = lengthsOf lent }
@@ -140,7 +140,7 @@ module _ (words : List ℕ) (d : Float) (t : Tables) (places : Request) where
 
   pub said : Said words d t places (distanceEffect words d t places)
   unfolding distanceEffect effectOf
-  said = go (eqb (length words) 8)
+  said = go (eqb (length words) 9)
     where
       go : (b : Bool) → Said words d t places (cond (not b) (effect (reply 10 words places) t) (effectOf (distanceOf (stateOf words) d t) words places))
       go false = refuses {k = 10} (λ e. omega arith)

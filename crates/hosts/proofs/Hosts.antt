@@ -28,14 +28,14 @@ use Rattle.demands.specs.Run.{Run}
 use Rattle.demands.specs.Run.Run.{started as run-started, asked as run-asked, finished as run-finished}
 use Rattle.demands.specs.Reading.{HoldsAlone, LeafCell, Reading}
 use Rattle.demands.proofs.Call.{ask-refused, distance-ends}
-use Rattle.demands.proofs.Trace.{run-traced}
-use Rattle.demands.proofs.Fits.{leaves-count, count-done, refusal-broken, refusal-16}
+use Rattle.demands.proofs.Trace.{leaves-count, run-traced}
+use Rattle.demands.proofs.Fits.{count-done, refusal-broken, refusal-16}
 use Rattle.demands.proofs.Demands.{building, queue-of-64}
 use Rattle.demands.proofs.Reading.{of-finished-builds}
 use Rattle.mittenhelm_builds.specs.Words.{stateOf, wordsOf, Reply, reply, handOver, startReplies, Effect, effect, effectOf, distanceEffect}
 use Rattle.mittenhelm_builds.specs.Header.{Told}
 use Rattle.mittenhelm_builds.proofs.Words.{start-deep, start-wordless, start-over, distance-wordless, distance-over}
-use Rattle.mittenhelm_builds.proofs.Header.{read-back, written-back, words-are-eight, words-told}
+use Rattle.mittenhelm_builds.proofs.Header.{read-back, written-back, words-are-nine, words-told}
 use Rattle.mittenhelm_reading.specs.Reading.{Eight, HandsEight, HandsList}
 use Rattle.hosts.specs.HostRun.{Host, HostRun}
 use Rattle.hosts.specs.HostRun.HostRun.{started, told}
@@ -50,26 +50,26 @@ use Rattle.hosts.proofs.Handed.Said.{refuses, asks, ends}
 
 module _ {bound : ℕ} {lent : Tables} where
   begins-run : {words : List ℕ} {places : Request} {r : Reply} → StartSaid bound lent words places r → r .number ≡ 0
-      → Run bound lent [] (stateOf (r .words)) lent × (length (r .words) ≡ 8)
+      → Run bound lent [] (stateOf (r .words)) lent × (length (r .words) ≡ 9)
   begins-run (declines n) z = absurd (n z)
-  begins-run (begins {s} f _) z = (subst (λ (x : State). Run bound lent [] x lent) (sym (read-back s)) (run-started f), words-are-eight s)
+  begins-run (begins {s} f _) z = (subst (λ (x : State). Run bound lent [] x lent) (sym (read-back s)) (run-started f), words-are-nine s)
 
   goes-on : {given : List Float} {words : List ℕ} {d : Float} {t : Tables} {places : Request} {x : Effect}
       → Run bound lent given (stateOf words) t → Said words d t places x → x .said .number ≡ 0
-      → Run bound lent (d ∷ given) (stateOf (x .said .words)) (x .tables) × (length (x .said .words) ≡ 8)
+      → Run bound lent (d ∷ given) (stateOf (x .said .words)) (x .tables) × (length (x .said .words) ≡ 9)
   goes-on h (refuses n) z = absurd (n z)
   goes-on {given} {d = d} h (asks {s = s} {t' = t'} f) z =
-      (subst (λ (x : State). Run bound lent (d ∷ given) x t') (sym (read-back s)) (run-asked d h f), words-are-eight s)
+      (subst (λ (x : State). Run bound lent (d ∷ given) x t') (sym (read-back s)) (run-asked d h f), words-are-nine s)
   goes-on {given} {d = d} h (ends {s} {t'} f) z =
-      (subst (λ (x : State). Run bound lent (d ∷ given) x t') (sym (read-back s)) (run-finished d h f), words-are-eight s)
+      (subst (λ (x : State). Run bound lent (d ∷ given) x t') (sym (read-back s)) (run-finished d h f), words-are-nine s)
 
   host-run : {host : Host} {given : List Float} {words : List ℕ} {t : Tables} → HostRun host bound lent given words t
-      → Run bound lent given (stateOf words) t × (length words ≡ 8)
+      → Run bound lent given (stateOf words) t × (length words ≡ 9)
   host-run {host} (started {words} {request} e) =
-      subst (λ (r : Reply). Run bound lent [] (stateOf (r .words)) lent × (length (r .words) ≡ 8)) e
+      subst (λ (r : Reply). Run bound lent [] (stateOf (r .words)) lent × (length (r .words) ≡ 9)) e
       (begins-run (start-said bound lent (host .words) (host .places 0)) (ap (λ (r : Reply). r .number) e))
   host-run {host} (told {given} {words} {t = t} d h e) =
-      subst (λ (x : Effect). Run bound lent (d ∷ given) (stateOf (x .said .words)) (x .tables) × (length (x .said .words) ≡ 8)) e
+      subst (λ (x : Effect). Run bound lent (d ∷ given) (stateOf (x .said .words)) (x .tables) × (length (x .said .words) ≡ 9)) e
       (goes-on (host-run h .0) (said words d t (host .places (suc (length given)))) (ap (λ (x : Effect). x .said .number) e))
 
 pub is-a-build : IsABuild
@@ -77,7 +77,7 @@ is-a-build host bound lent given words t h = host-run h .0
 
 -- ---- each build is in reach of every host
 
-reach-start : (bound : ℕ) (lent : Tables) (words : List ℕ) (places : Request) → length words ≡ 8
+reach-start : (bound : ℕ) (lent : Tables) (words : List ℕ) (places : Request) → length words ≡ 9
     → (r : Request) (s : State) → startOf bound lent ≡ Ask r s → startReplies bound lent words places ≡ reply 0 (wordsOf s) r
 unfolding startOf handOver
 reach-start bound lent words places l r s e =
@@ -91,22 +91,22 @@ reach-start bound lent words places l r s e =
 reach-on : (s : State) (d : Float) (t : Tables) (places : Request) (a : Answer) (t' : Tables) → distanceOf s d t ≡ outcome a t'
     → distanceEffect (wordsOf s) d t places ≡ effect (handOver a (wordsOf s) places) t'
 reach-on s d t places a t' e =
-    sym (distance-over (wordsOf s) d t places (outcome a t') (handOver a (wordsOf s) places) (words-are-eight s)
+    sym (distance-over (wordsOf s) d t places (outcome a t') (handOver a (wordsOf s) places) (words-are-nine s)
     (sym (ap (λ (x : State). distanceOf x d t) (read-back s) ∙ e)) refl)
 
-module _ (host : Host) (eight : length (host .words) ≡ 8) {bound : ℕ} {lent : Tables} where
+module _ (host : Host) (nine : length (host .words) ≡ 9) {bound : ℕ} {lent : Tables} where
   reach : {given : List Float} {s : State} {t : Tables} → Run bound lent given s t → HostRun host bound lent given (wordsOf s) t
   unfolding handOver
-  reach (run-started {r} {s} e) = started (reach-start bound lent (host .words) (host .places 0) eight r s e)
+  reach (run-started {r} {s} e) = started (reach-start bound lent (host .words) (host .places 0) nine r s e)
   reach (run-asked {given} {r} {s} {s'} {t} {t'} d h e) = told d (reach h) (reach-on s d t (host .places (suc (length given))) (Ask r s') t' e)
   reach (run-finished {given} {s} {s'} {t} {t'} d h e) = told d (reach h) (reach-on s d t (host .places (suc (length given))) (Finished s') t' e)
 
 pub in-reach : InReach
-in-reach host eight bound lent given s t h = reach host eight h
+in-reach host nine bound lent given s t h = reach host nine h
 
 -- ---- the demands
 
-told-read : (words : List ℕ) → length words ≡ 8 → Told words (stateOf words)
+told-read : (words : List ℕ) → length words ≡ 9 → Told words (stateOf words)
 told-read words l = subst (λ (w : List ℕ). Told w (stateOf words)) (written-back words l) (words-told (stateOf words))
 
 pub hosts-building : HostsBuilding
@@ -120,7 +120,7 @@ hosts-building host bound lent given words t h =
     let at : (d : Float) (places : Request) → returned words d t places ≡ refusalOf s (splitOf s d) d t = λ d places. number-is words d t places (r .1) in
     record {
       after = a;
-      eight = r .1;
+      nine = r .1;
       told = w;
       word-0 = w .bound ∙ k .bound-same;
       word-1 = w .nodes ∙ a .nodes;
@@ -129,8 +129,9 @@ hosts-building host bound lent given words t h =
       word-3-asks = λ d places e. w .asked ∙ nothing-asked s (splitOf s d) d t (sym (at d places) ∙ e);
       word-4 = w .keys-length ∙ ap (λ (z : Lengths). z .keys) (k .lengths-same);
       word-5 = w .distances-length ∙ ap (λ (z : Lengths). z .distances) (k .lengths-same);
-      word-6 = w .leaves-length ∙ ap (λ (z : Lengths). z .leaves) (k .lengths-same);
-      word-7 = w .queue-length ∙ ap (λ (z : Lengths). z .queue) (k .lengths-same);
+      word-6 = w .firsts-length ∙ ap (λ (z : Lengths). z .firsts) (k .lengths-same);
+      word-7 = w .leaves-length ∙ ap (λ (z : Lengths). z .leaves) (k .lengths-same);
+      word-8 = w .queue-length ∙ ap (λ (z : Lengths). z .queue) (k .lengths-same);
       never-10 = λ d places e.
           a .never-10 d (ap (λ (o : Outcome). o .answer) (sym (call-refused s t d 10 (sym e ∙ at d places) (λ z. omega (arith, z)))));
       broken-16 = λ asks d places f. at d places ∙ refusal-broken s (splitOf s d) d t (a .fitting) (λ z. asks (w .asked ∙ z)) f;
@@ -138,9 +139,9 @@ hosts-building host bound lent given words t h =
     }
 
 pub hosts-queue-of-64 : HostsQueueOf64
-hosts-queue-of-64 host bound lent given eight low room leaves queue l all =
+hosts-queue-of-64 host bound lent given nine low room leaves queue l all =
     let r = queue-of-64 bound lent given low room leaves queue l all in
-    (wordsOf (r .0), r .1, reach host eight (r .2), words-told (r .0) .asked ∙ r .3)
+    (wordsOf (r .0), r .1, reach host nine (r .2), words-told (r .0) .asked ∙ r .3)
 
 -- from what the calls on a tree answer to what they hand over
 module _ {D : ℕ} {tree : Tree} (sound : Sound tree) (h : Reading D tree) where
@@ -192,7 +193,7 @@ unfolding startReplies startOf handOver
 start-returns bound t words places = (
   λ h. ap (λ (r : Reply). r .number) (sym (start-deep bound t words places h)),
   λ h n. ap (λ (r : Reply). r .number) (sym (start-wordless bound t words places h n)),
-  λ h l. rw (le-ltb limit bound h, eq-eqb (length words) 8 l) refl,
+  λ h l. rw (le-ltb limit bound h, eq-eqb (length words) 9 l) refl,
 )
 
 pub distance-returns : DistanceReturns
@@ -277,7 +278,7 @@ module _ (words : List ℕ) (d : Float) (t : Tables) (before later : Request) wh
 
 pub brought-back-later : BroughtBackLater
 unfolding distanceEffect effectOf
-brought-back-later words d t before later = go (eqb (length words) 8)
+brought-back-later words d t before later = go (eqb (length words) 9)
   where
     go : (b : Bool)
         → Alike (cond (not b) (effect (reply 10 words before) t) (effectOf (distanceOf (stateOf words) d t) words before))
@@ -297,6 +298,6 @@ goes-on-as-before host bound lent given words words' d t t' later request h e =
     (a .tables ∙ ap (λ (x : Effect). x .tables) e))
 
 pub brought-back-anywhere : BroughtBackAnywhere
-brought-back-anywhere host other eight bound lent given words t h =
+brought-back-anywhere host other nine bound lent given words t h =
     let r = host-run h in
-    subst (λ (w : List ℕ). HostRun other bound lent given w t) (written-back words (r .1)) (reach other eight (r .0))
+    subst (λ (w : List ℕ). HostRun other bound lent given w t) (written-back words (r .1)) (reach other nine (r .0))

@@ -1,4 +1,4 @@
--- A build as a host has it behind the C boundary: eight words and four tables, from its start on. Assumes nothing.
+-- A build as a host has it behind the C boundary: nine words and five tables, from its start on. Assumes nothing.
 use Prim.Native.Nat.{ℕ, suc}
 use mathlib.Core.Path.{_≡_}
 use mathlib.Core.List.{List, [], _∷_}
@@ -11,7 +11,7 @@ use Rattle.mittenhelm_builds.specs.Words.{reply, startReplies, effect, distance
 use Rattle.mittenhelm_builds.specs.Header.{word}
 
 -- What stands in a host's places when it calls: the words before the start, and the request's five places before the start, which is call 0, and
--- before the i-th accepted distance. It may be anything; only a start with other than eight words isn't accepted.
+-- before the i-th accepted distance. It may be anything; only a start with other than nine words isn't accepted.
 pub record Host : Type 0 where
   pub words : List ℕ
   pub places : ℕ → Request
@@ -27,7 +27,12 @@ pub data HostRun (host : Host) (bound : ℕ) (lent : Tables) : List Float → Li
       → distanceEffect words d t (host .places (suc (length given))) ≡ effect (reply 0 words' request) t'
       → HostRun host bound lent (d ∷ given) words' t'
 
--- Of a build with n nodes and m leaves the first n keys, the first n distances and the first m leaves.
+-- Of a build with n nodes and m leaves the first n keys, distances and first children and the first m leaves.
 abbrev pub treeIn : List ℕ → Tables → Tree
 treeIn words t =
-    record { keys = take (word words 1) (t .keys); distances = take (word words 1) (t .distances); leaves = take (word words 2) (t .leaves) }
+    record {
+      keys = take (word words 1) (t .keys);
+      distances = take (word words 1) (t .distances);
+      firsts = take (word words 1) (t .firsts);
+      leaves = take (word words 2) (t .leaves);
+    }

@@ -30,7 +30,7 @@ IsABuild =
 
 abbrev pub InReach : Type 0
 InReach =
-    (host : Host) → length (host .words) ≡ 8
+    (host : Host) → length (host .words) ≡ 9
     → (bound : ℕ) (lent : Tables) (given : List Float) (s : State) (t : Tables)
     → Run bound lent given s t → HostRun host bound lent given (wordsOf s) t
 
@@ -42,9 +42,9 @@ returned words d t places = distanceEffect words d t places .said .number
 
 -- What holds after every accepted distance, and at the start.
 pub record AfterEveryCall (bound : ℕ) (lent : Tables) (given : List Float) (words : List ℕ) (t : Tables) : Type 0 where
-  -- All that holds of a build holds of the state in the words. They are eight, in the places of the header:
+  -- All that holds of a build holds of the state in the words. They are nine, in the places of the header:
   pub after : AfterEveryDistance bound lent given (stateOf words) t
-  pub eight : length words ≡ 8
+  pub nine : length words ≡ 9
   pub told : Told words (stateOf words)
   -- the bound of the start,
   pub word-0 : word words 0 ≡ bound
@@ -57,8 +57,9 @@ pub record AfterEveryCall (bound : ℕ) (lent : Tables) (given : List Float) (wo
   -- and the lengths that the tables had at the start.
   pub word-4 : word words 4 ≡ length (lent .keys)
   pub word-5 : word words 5 ≡ length (lent .distances)
-  pub word-6 : word words 6 ≡ length (lent .leaves)
-  pub word-7 : word words 7 ≡ length (lent .queue)
+  pub word-6 : word words 6 ≡ length (lent .firsts)
+  pub word-7 : word words 7 ≡ length (lent .leaves)
+  pub word-8 : word words 8 ≡ length (lent .queue)
   -- 10 is never returned, whatever distance is given next.
   pub never-10 : (d : Float) (places : Request) → returned words d t places ≡ 10 → ⊥
   -- While a cell is asked for, 16 is returned for an infinite or NaN distance, full tables or not, and for no finite one.
@@ -73,7 +74,7 @@ HostsBuilding =
 -- Bound 2 is finished by any 73 finite distances, in a queue of 64.
 abbrev pub HostsQueueOf64 : Type 0
 HostsQueueOf64 =
-    (host : Host) (bound : ℕ) (lent : Tables) (given : List Float) → length (host .words) ≡ 8
+    (host : Host) (bound : ℕ) (lent : Tables) (given : List Float) → length (host .words) ≡ 9
     → bound ≤ 2 → 73 ≤ nodeRoom (lengthsOf lent) → 64 ≤ length (lent .leaves) → 64 ≤ length (lent .queue)
     → length given ≡ 73 → AllFinite given
     → (words : List ℕ) × (t : Tables) × HostRun host bound lent given words t × (word words 3 ≡ 0)
@@ -94,7 +95,7 @@ pub record HostsReading (D : ℕ) (tree : Tree) : Type 0 where
       → HandsDual tree (getD (left .levels) (start + j) 0) (getD (left .vertices) (start + j) 0) then k out
       → (k ≡ 0) × LeafCell D tree (getD (left .vertices) (start + j) 0) (dualIn out)
 
--- Of a finished build the first n keys and distances and the first m leaves are a sound tree, and are read right.
+-- Of a finished build the first n keys, distances and first children and the first m leaves are a sound tree, and are read right.
 abbrev pub HostsFinished : Type 0
 HostsFinished =
     (host : Host) (bound : ℕ) (lent : Tables) (given : List Float) (words : List ℕ) (t : Tables)
@@ -103,20 +104,20 @@ HostsFinished =
 
 -- ---- what is returned
 
--- 5 for a bound above 15, then 10 where other than eight words have no room for a state; else 0, for an accepted start.
+-- 5 for a bound above 15, then 10 where other than nine words have no room for a state; else 0, for an accepted start.
 abbrev pub StartReturns : Type 0
 StartReturns =
     (bound : ℕ) (t : Tables) (words : List ℕ) (places : Request)
     → (15 < bound → startReplies bound t words places .number ≡ 5)
-    × (bound ≤ 15 → (length words ≡ 8 → ⊥) → startReplies bound t words places .number ≡ 10)
-    × (bound ≤ 15 → length words ≡ 8 → startReplies bound t words places .number ≡ 0)
+    × (bound ≤ 15 → (length words ≡ 9 → ⊥) → startReplies bound t words places .number ≡ 10)
+    × (bound ≤ 15 → length words ≡ 9 → startReplies bound t words places .number ≡ 0)
 
--- 10 where other than eight words hold no state; else the build's number for no, 0 for an accepted distance.
+-- 10 where other than nine words hold no state; else the build's number for no, 0 for an accepted distance.
 abbrev pub DistanceReturns : Type 0
 DistanceReturns =
     (words : List ℕ) (d : Float) (t : Tables) (places : Request)
-    → ((length words ≡ 8 → ⊥) → returned words d t places ≡ 10)
-    × (length words ≡ 8 → returned words d t places ≡ refusalOf (stateOf words) (splitOf (stateOf words) d) d t)
+    → ((length words ≡ 9 → ⊥) → returned words d t places ≡ 10)
+    × (length words ≡ 9 → returned words d t places ≡ refusalOf (stateOf words) (splitOf (stateOf words) d) d t)
 
 -- ---- what stands in a host's places
 
@@ -149,7 +150,7 @@ DistanceRequests =
     → HostRun host bound lent given words t
     → distanceEffect words d t places ≡ effect (reply 0 words' request) t' → Requests words' places request
 
--- ---- "a copy of all five can be brought back later, anywhere"
+-- ---- "a copy of all six can be brought back later, anywhere"
 
 -- Two calls return the same number, leave the same words and tables, and make the same request where one is made.
 pub record Alike (a b : Effect) : Type 0 where
@@ -173,6 +174,6 @@ GoesOnAsBefore =
 -- Anywhere: words and tables are as well a build of any other host, so all the above holds of them there.
 abbrev pub BroughtBackAnywhere : Type 0
 BroughtBackAnywhere =
-    (host other : Host) → length (other .words) ≡ 8
+    (host other : Host) → length (other .words) ≡ 9
     → (bound : ℕ) (lent : Tables) (given : List Float) (words : List ℕ) (t : Tables)
     → HostRun host bound lent given words t → HostRun other bound lent given words t
