@@ -19,8 +19,7 @@ use Rattle.vertices.specs.declared.ListAnswer.the-variants as list
 use Rattle.vertices.specs.Listing as listing
 use Rattle.vertices.specs.Listing.{Lists, listsOf, ListSays}
 use Rattle.demands.specs.Reading.{treeAfter}
-use Rattle.demands.proofs.Trace.{run-traced}
-use Rattle.demands.proofs.Fits.{nodes-count, leaves-count}
+use Rattle.demands.proofs.Trace.{nodes-count, leaves-count, run-traced}
 use Rattle.demands.proofs.Soundness.{finished-sound}
 use Rattle.counting.specs.Vertices.{vertexCount}
 use Rattle.counting.specs.Printed.{afterAll}
@@ -28,16 +27,16 @@ use Rattle.counting.specs.Writing.{Built, listedOf}
 use Rattle.counting.proofs.Runs.{finished-run}
 use Rattle.counting.proofs.Distinct.{listed-count}
 
-pub built : (bound : ℕ) (lent : Tables) (ds : List Float) (s : State) (keys : List ℕ) (distances : List Float) (leaves queue : List ℕ) (a : Answer)
-    → a ≡ Finished s → outcome a (tablesOf keys distances leaves queue) ≡ afterAll ds (outcome (startOf bound lent) lent) → Built s keys distances leaves
-built bound lent ds s keys distances leaves queue a e h =
-    let t = tablesOf keys distances leaves queue in
+pub built : (bound : ℕ) (lent : Tables) (ds : List Float) (s : State) (keys : List ℕ) (distances : List Float) (firsts leaves queue : List ℕ) (a : Answer)
+    → a ≡ Finished s → outcome a (tablesOf keys distances firsts leaves queue) ≡ afterAll ds (outcome (startOf bound lent) lent) → Built s keys distances firsts leaves
+built bound lent ds s keys distances firsts leaves queue a e h =
+    let t = tablesOf keys distances firsts leaves queue in
     let r = finished-run bound lent ds s t (sym h ∙ ap (λ (x : Answer). outcome x t) e) in
     record { bound = bound; lent = lent; queue = queue; given = r .0; run = r .1; done = r .2 }
 
-module _ {s : State} {keys leaves : List ℕ} {distances : List Float} (h : Built s keys distances leaves) where
+module _ {s : State} {keys firsts leaves : List ℕ} {distances : List Float} (h : Built s keys distances firsts leaves) where
   abbrev tables : Tables
-  tables = tablesOf keys distances leaves (h .queue)
+  tables = tablesOf keys distances firsts leaves (h .queue)
 
   pub built-sound : Sound (treeAfter s tables)
   built-sound = finished-sound (h .bound) (h .lent) (h .given) s tables (h .run) (h .done)
@@ -47,6 +46,9 @@ module _ {s : State} {keys leaves : List ℕ} {distances : List Float} (h : Buil
 
   pub as-many-distances : length (take (s .nodes) distances) ≡ s .nodes
   as-many-distances = sym (built-sound .as-many) ∙ as-many-keys
+
+  pub as-many-firsts : length (take (s .nodes) firsts) ≡ s .nodes
+  as-many-firsts = sym (built-sound .as-many-firsts) ∙ as-many-keys
 
   pub as-many-leaves : length (take (s .leaves) leaves) ≡ s .leaves
   as-many-leaves = leaves-count s tables (run-traced (h .run))

@@ -32,7 +32,7 @@ abbrev pub zeros : List ℕ
 zeros = replicate 1024 0
 
 abbrev pub lent : Tables
-lent = tablesOf zeros (replicate 1024 (ofBits binary32 0)) zeros zeros
+lent = tablesOf zeros (replicate 1024 (ofBits binary32 0)) zeros zeros zeros
 
 -- The next distance is for the cell that is asked for; where none is, it is ignored.
 abbrev pub nextOf : Answer → Tables → Float → Outcome

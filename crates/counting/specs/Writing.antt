@@ -33,12 +33,12 @@ putAll t (b ∷ bs) = putAll (putOf t b) bs
 -- ---- a tree
 
 -- The tables of a finished build.
-pub record Built (s : State) (keys : List ℕ) (distances : List Float) (leaves : List ℕ) : Type 0 where
+pub record Built (s : State) (keys : List ℕ) (distances : List Float) (firsts leaves : List ℕ) : Type 0 where
   pub bound : ℕ
   pub lent : Tables
   pub queue : List ℕ
   pub given : List Float
-  pub run : Run bound lent given s (tablesOf keys distances leaves queue)
+  pub run : Run bound lent given s (tablesOf keys distances firsts leaves queue)
   pub done : s .asked ≡ 0
 
 -- The number of the vertices; 12 exactly if there are more than 1,024; never 11.

@@ -131,18 +131,19 @@ fn drive(
     input: &[u8],
     keys: &mut [u64],
     distances: &mut [f32],
+    firsts: &mut [u16],
     leaves: &mut [u64],
     queue: &mut [u64],
 ) -> Answer
     requires { ⌜ 0 < length (now input) ⌝ }
     ensures { λ r. ⌜
-        outcome r (tablesOf (now (keys .exit)) (now (distances .exit)) (now (leaves .exit)) (now (queue .exit)))
+        outcome r (tablesOf (now (keys .exit)) (now (distances .exit)) (now (firsts .exit)) (now (leaves .exit)) (now (queue .exit)))
         ≡ afterAll (distancesIn (drop 1 (now (input .entry))))
-        (outcome (startOf (getD (now (input .entry)) 0 0) (tablesOf (now (keys .entry)) (now (distances .entry)) (now (leaves .entry)) (now (queue .entry))))
-        (tablesOf (now (keys .entry)) (now (distances .entry)) (now (leaves .entry)) (now (queue .entry)))) ⌝ }
+        (outcome (startOf (getD (now (input .entry)) 0 0) (tablesOf (now (keys .entry)) (now (distances .entry)) (now (firsts .entry)) (now (leaves .entry)) (now (queue .entry))))
+        (tablesOf (now (keys .entry)) (now (distances .entry)) (now (firsts .entry)) (now (leaves .entry)) (now (queue .entry)))) ⌝ }
 {
     let bound = bound_of(input);
-    let mut answer = build::start(bound, keys, distances, leaves, queue);
+    let mut answer = build::start(bound, keys, distances, firsts, leaves, queue);
     let mut at = 1;
     loop {
         let Answer::Ask(_, s) = answer else {
@@ -152,14 +153,14 @@ fn drive(
             return answer;
         }
         let d = distance_at(input, at);
-        answer = build::distance(s, keys, distances, leaves, queue, d);
+        answer = build::distance(s, keys, distances, firsts, leaves, queue, d);
         at += 4;
     }
 }
 
 // The vertex list of a finished build, into tables that aren't kept.
-fn listed(s: State, keys: &[u64], distances: &[f32], leaves: &[u64]) -> ListAnswer
-    requires { ⌜ Built s (now keys) (now distances) (now leaves) ⌝ }
+fn listed(s: State, keys: &[u64], distances: &[f32], firsts: &[u16], leaves: &[u64]) -> ListAnswer
+    requires { ⌜ Built s (now keys) (now distances) (now firsts) (now leaves) ⌝ }
     ensures { λ r. ⌜ r ≡ listedOf (take (s .leaves) (now (leaves .entry))) ⌝ }
 {
     let mut vertices = [0u64; 1024];
@@ -169,6 +170,7 @@ fn listed(s: State, keys: &[u64], distances: &[f32], leaves: &[u64]) -> ListAnsw
     vertices::list(
         &keys[..n],
         &distances[..n],
+        &firsts[..n],
         &leaves[..m],
         0,
         &mut vertices,
@@ -176,11 +178,11 @@ fn listed(s: State, keys: &[u64], distances: &[f32], leaves: &[u64]) -> ListAnsw
     )
 }
 
-fn tree_line(s: State, keys: &[u64], distances: &[f32], leaves: &[u64]) -> Text
-    requires { ⌜ Built s (now keys) (now distances) (now leaves) ⌝ }
+fn tree_line(s: State, keys: &[u64], distances: &[f32], firsts: &[u16], leaves: &[u64]) -> Text
+    requires { ⌜ Built s (now keys) (now distances) (now firsts) (now leaves) ⌝ }
     ensures { λ r. ⌜ r ≡ putAll noText (treeLine (s .nodes) (s .leaves) (vertexCount (take (s .leaves) (now (leaves .entry))))) ⌝ }
 {
-    let answer = listed(s, keys, distances, leaves);
+    let answer = listed(s, keys, distances, firsts, leaves);
     match answer {
         ListAnswer::Count(vertices) => counts(s.nodes, s.leaves, vertices),
         ListAnswer::Refused(number) => refused(number),
@@ -196,12 +198,20 @@ pub fn line(input: &[u8]) -> Text
     }
     let mut keys = [0u64; 1024];
     let mut distances = [0.0f32; 1024];
+    let mut firsts = [0u16; 1024];
     let mut leaves = [0u64; 1024];
     let mut queue = [0u64; 1024];
-    let answer = drive(input, &mut keys, &mut distances, &mut leaves, &mut queue);
+    let answer = drive(
+        input,
+        &mut keys,
+        &mut distances,
+        &mut firsts,
+        &mut leaves,
+        &mut queue,
+    );
     match answer {
         Answer::Ask(_, _) => short(),
-        Answer::Finished(s) => tree_line(s, &keys, &distances, &leaves),
+        Answer::Finished(s) => tree_line(s, &keys, &distances, &firsts, &leaves),
         Answer::Refused(number) => refused(number),
     }
 }

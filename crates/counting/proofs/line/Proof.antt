@@ -23,6 +23,9 @@ slice-aggregate-drive-3 c = search needs
 slice-aggregate-drive-4 : tie.Need-slice-aggregate-drive-4
 slice-aggregate-drive-4 c = search needs
 
+slice-aggregate-drive-5 : tie.Need-slice-aggregate-drive-5
+slice-aggregate-drive-5 c = search needs
+
 drive-requires : tie.Need-drive-requires
 drive-requires c κs = search needs
 
@@ -44,8 +47,11 @@ slice-aggregate-tree-line-2 c = search needs
 slice-aggregate-tree-line-3 : tie.Need-slice-aggregate-tree-line-3
 slice-aggregate-tree-line-3 c = search needs
 
+slice-aggregate-tree-line-4 : tie.Need-slice-aggregate-tree-line-4
+slice-aggregate-tree-line-4 c = search needs
+
 tree-line-requires : tie.Need-tree-line-requires
-tree-line-requires c κs = built _ _ _ _ _ _ _ _ _ (c .before .before .before .before .answer .given .1) (c .before .before .before .before .before .before .before .before .before .before .drive .ensures)
+tree-line-requires c κs = built _ _ _ _ _ _ _ _ _ _ (c .before .before .before .before .before .answer .given .1) (c .before .before .before .before .before .before .before .before .before .before .before .before .drive .ensures)
 
 enum-known-answer-2 : tie.Need-enum-known-answer-2
 enum-known-answer-2 c = search needs
@@ -54,13 +60,13 @@ refused-requires : tie.Need-refused-requires
 refused-requires c κs = search needs
 
 returns-2 : tie.Need-returns-2
-returns-2 c = line-asked _ _ _ (c .short2 .result) (c .before .before .before .before .before .before .before .before .before .before .before .before .if1 .left) (c .before .before .before .before .before .before .before .drive .ensures) (c .before .enum-told .given .1) (c .short2 .ensures)
+returns-2 c = line-asked _ _ _ (c .short2 .result) (c .before .before .before .before .before .before .before .before .before .before .before .before .before .before .if1 .left) (c .before .before .before .before .before .before .before .before .drive .ensures) (c .before .enum-told .given .1) (c .short2 .ensures)
 
 returns-3 : tie.Need-returns-3
-returns-3 c = line-finished _ _ _ (c .tree-line .result) (c .before .before .before .before .before .before .before .before .before .before .before .before .before .before .before .before .if1 .left) (c .before .before .before .before .before .before .before .before .before .before .before .drive .ensures) (c .before .before .before .before .before .answer .given .1) (c .tree-line .ensures)
+returns-3 c = line-finished _ _ _ (c .tree-line .result) (c .before .before .before .before .before .before .before .before .before .before .before .before .before .before .before .before .before .before .before .if1 .left) (c .before .before .before .before .before .before .before .before .before .before .before .before .before .drive .ensures) (c .before .before .before .before .before .before .answer .given .1) (c .tree-line .ensures)
 
 returns-4 : tie.Need-returns-4
-returns-4 c = line-refused _ _ _ (c .refused .result) (c .before .before .before .before .before .before .before .before .before .before .before .before .before .if1 .left) (c .before .before .before .before .before .before .before .before .drive .ensures) (c .before .before .answer2 .given .1) (c .refused .ensures)
+returns-4 c = line-refused _ _ _ (c .refused .result) (c .before .before .before .before .before .before .before .before .before .before .before .before .before .before .before .if1 .left) (c .before .before .before .before .before .before .before .before .before .drive .ensures) (c .before .before .answer2 .given .1) (c .refused .ensures)
 
 pub line-spec : {M : Type 1} → statement M
 line-spec =
@@ -72,6 +78,7 @@ line-spec =
     slice-aggregate-drive-2
     slice-aggregate-drive-3
     slice-aggregate-drive-4
+    slice-aggregate-drive-5
     drive-requires
     enum-told
     short-requires-2
@@ -79,6 +86,7 @@ line-spec =
     slice-aggregate-tree-line
     slice-aggregate-tree-line-2
     slice-aggregate-tree-line-3
+    slice-aggregate-tree-line-4
     tree-line-requires
     enum-known-answer-2
     refused-requires
