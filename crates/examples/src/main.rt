@@ -79,6 +79,7 @@ fn give(
     field: Field,
     keys: &mut [u64],
     distances: &mut [f32],
+    firsts: &mut [u16],
     leaves: &mut [u64],
     queue: &mut [u64],
 ) -> Trial {
@@ -87,7 +88,7 @@ fn give(
     match answer {
         Answer::Ask(request, state) => {
             let d = distance_at(field, request.key);
-            let next = build::distance(state, keys, distances, leaves, queue, d);
+            let next = build::distance(state, keys, distances, firsts, leaves, queue, d);
             Trial {
                 answer: next,
                 given: std::num::wrapping_add_u64(given, 1),
@@ -111,16 +112,17 @@ fn run(
     most: u32,
     keys: &mut [u64],
     distances: &mut [f32],
+    firsts: &mut [u16],
     leaves: &mut [u64],
     queue: &mut [u64],
 ) -> Trial {
     let mut t = Trial {
-        answer: build::start(bound, keys, distances, leaves, queue),
+        answer: build::start(bound, keys, distances, firsts, leaves, queue),
         given: 0,
     };
     let mut left = most;
     while 0 < left {
-        let next = give(t, field, keys, distances, leaves, queue);
+        let next = give(t, field, keys, distances, firsts, leaves, queue);
         t = next;
         left -= 1;
     }
@@ -131,6 +133,7 @@ fn run(
 fn built(bound: u32, field: Field, queue: &mut [u64]) -> Trial {
     let mut keys = [0u64; 100];
     let mut distances = [0.0f32; 100];
+    let mut firsts = [0u16; 100];
     let mut leaves = [0u64; 100];
     run(
         bound,
@@ -138,6 +141,7 @@ fn built(bound: u32, field: Field, queue: &mut [u64]) -> Trial {
         100,
         &mut keys,
         &mut distances,
+        &mut firsts,
         &mut leaves,
         queue,
     )
@@ -195,6 +199,7 @@ fn is_refused_with_63() -> bool {
 fn is_refused_past_4096() -> bool {
     let mut keys = [0u64; 4200];
     let mut distances = [0.0f32; 4200];
+    let mut firsts = [0u16; 4200];
     let mut leaves = [0u64; 4200];
     let mut queue = [0u64; 4200];
     let near = Field {
@@ -208,40 +213,82 @@ fn is_refused_past_4096() -> bool {
         5000,
         &mut keys,
         &mut distances,
+        &mut firsts,
         &mut leaves,
         &mut queue,
     );
     is_refused(t, 6, 4097)
 }
 
-// A key table that has become shorter since the start.
+// Node room is the shortest of three tables.
+fn is_refused_past_72() -> bool {
+    let mut keys = [0u64; 73];
+    let mut distances = [0.0f32; 73];
+    let mut firsts = [0u16; 72];
+    let mut leaves = [0u64; 64];
+    let mut queue = [0u64; 64];
+    let t = run(
+        2,
+        far(),
+        73,
+        &mut keys,
+        &mut distances,
+        &mut firsts,
+        &mut leaves,
+        &mut queue,
+    );
+    is_refused(t, 6, 73)
+}
+
+// A key table, or one of first children, that is shorter than at the start.
 fn is_refused_elsewhere() -> bool {
     let mut keys = [0u64; 73];
     let mut distances = [0.0f32; 73];
+    let mut firsts = [0u16; 73];
     let mut leaves = [0u64; 64];
     let mut queue = [0u64; 64];
-    let answer = build::start(2, &keys, &distances, &leaves, &queue);
+    let answer = build::start(2, &keys, &distances, &firsts, &leaves, &queue);
     let t = Trial {
         answer: answer,
         given: 0,
     };
+    let mut fewer_keys = [0u64; 72];
+    let mut fewer_firsts = [0u16; 72];
     let next = give(
         t,
         far(),
-        &mut keys[..72],
+        &mut fewer_keys,
         &mut distances,
+        &mut firsts,
         &mut leaves,
         &mut queue,
     );
-    is_refused(next, 10, 1)
+    let other = give(
+        t,
+        far(),
+        &mut keys,
+        &mut distances,
+        &mut fewer_firsts,
+        &mut leaves,
+        &mut queue,
+    );
+    is_refused(next, 10, 1) && is_refused(other, 10, 1)
 }
 
 // ---- reading a finished tree
 
-fn lists(keys: &[u64], distances: &[f32], leaves: &[u64], count: usize) -> bool {
+fn lists(keys: &[u64], distances: &[f32], firsts: &[u16], leaves: &[u64], count: usize) -> bool {
     let mut vertices = [0u64; 100];
     let mut levels = [0u8; 100];
-    let answer = vertices::list(keys, distances, leaves, 0, &mut vertices, &mut levels);
+    let answer = vertices::list(
+        keys,
+        distances,
+        firsts,
+        leaves,
+        0,
+        &mut vertices,
+        &mut levels,
+    );
     match answer {
         ListAnswer::Count(n) => n == count,
         ListAnswer::Refused(_) => false,
@@ -254,13 +301,23 @@ fn grows(
     field: Field,
     keys: &mut [u64],
     distances: &mut [f32],
+    firsts: &mut [u16],
     leaves: &mut [u64],
     count: usize,
 ) -> bool {
     let mut queue = [0u64; 100];
-    let t = run(bound, field, 100, keys, distances, leaves, &mut queue);
+    let t = run(
+        bound,
+        field,
+        100,
+        keys,
+        distances,
+        firsts,
+        leaves,
+        &mut queue,
+    );
     if is_finished(t, keys.len(), leaves.len()) {
-        lists(keys, distances, leaves, count)
+        lists(keys, distances, firsts, leaves, count)
     } else {
         false
     }
@@ -269,12 +326,13 @@ fn grows(
 fn finds(
     keys: &[u64],
     distances: &[f32],
+    firsts: &[u16],
     leaves: &[u64],
     key: u64,
     deepest: u64,
     tries: u32,
 ) -> bool {
-    let answer = tree::look_up(keys, distances, leaves, key);
+    let answer = tree::look_up(keys, distances, firsts, leaves, key);
     match answer {
         Lookup::Found {
             key: k,
@@ -310,12 +368,13 @@ fn same_eight(found: [u64; 8], eight: [u64; 8]) -> bool {
 fn meet(
     keys: &[u64],
     distances: &[f32],
+    firsts: &[u16],
     leaves: &[u64],
     key: u64,
     eight: [u64; 8],
     tries: u32,
 ) -> bool {
-    let cell = dual::dual_cell(keys, distances, leaves, far_corner(key), 3);
+    let cell = dual::dual_cell(keys, distances, firsts, leaves, far_corner(key), 3);
     let found = cell.keys;
     let answer = cell.tried;
     match answer {
@@ -355,57 +414,86 @@ fn lies_in(key: u64, exponent: u32, slab: u32) -> bool {
     }
 }
 
-fn say_of_tree(keys: &[u64], distances: &[f32], leaves: &[u64]) {
-    say(b"that tree is sound", tree::sound(keys, distances, leaves));
+fn say_of_tree(keys: &[u64], distances: &[f32], firsts: &[u16], leaves: &[u64]) {
+    say(
+        b"that tree is sound",
+        tree::sound(keys, distances, firsts, leaves),
+    );
     say(
         b"that tree, key 4152: 519; 2 tried",
-        finds(keys, distances, leaves, 4152, 519, 2),
+        finds(keys, distances, firsts, leaves, 4152, 519, 2),
     );
     let outer = [71, 70, 69, 68, 67, 66, 65, 519];
     say(
         b"that tree, vertex of 519, corner 7, level 3: 71, 70, 69, 68, 67, 66, 65, 519; 15 tried",
-        meet(keys, distances, leaves, 519, outer, 15),
+        meet(keys, distances, firsts, leaves, 519, outer, 15),
     );
     let inner = [519, 518, 517, 516, 515, 514, 513, 512];
     say(
         b"that tree, vertex of 512, corner 7, level 3: 519 down to 512; 8 tried",
-        meet(keys, distances, leaves, 512, inner, 8),
+        meet(keys, distances, firsts, leaves, 512, inner, 8),
     );
     say(
         b"that tree, 0 for a vertex: 4, and nothing in the arrays",
-        is_empty(dual::dual_cell(keys, distances, leaves, 0, 3), 4),
+        is_empty(dual::dual_cell(keys, distances, firsts, leaves, 0, 3), 4),
     );
 }
 
-fn say_of_broken(keys: &[u64], leaves: &[u64]) {
+fn say_of_broken(keys: &[u64], firsts: &[u16], leaves: &[u64]) {
     let mut last = [1.0f32; 81];
     last[80] = 1.0 / 0.0;
     say(
         b"that tree, infinity at its last node: not sound",
-        !tree::sound(keys, &last, leaves),
+        !tree::sound(keys, &last, firsts, leaves),
     );
     let mut first = [1.0f32; 81];
     first[0] = 0.0 / 0.0;
     say(
         b"that tree, NaN at its root: not sound",
-        !tree::sound(keys, &first, leaves),
+        !tree::sound(keys, &first, firsts, leaves),
+    );
+}
+
+// Key 64 is split, at place 9, and the last node is a leaf.
+fn say_of_firsts(keys: &[u64], distances: &[f32], firsts: [u16; 81], leaves: &[u64]) {
+    let mut before = firsts;
+    before[9] = 72;
+    say(
+        b"that tree, the first child of 64 at 72 and not 73: not sound",
+        !tree::sound(keys, distances, &before, leaves),
+    );
+    let mut below = firsts;
+    below[80] = 1;
+    say(
+        b"that tree, a first child of its last leaf: not sound",
+        !tree::sound(keys, distances, &below, leaves),
     );
 }
 
 fn say_of_73() {
     let mut keys = [0u64; 73];
     let mut distances = [0.0f32; 73];
+    let mut firsts = [0u16; 73];
     let mut leaves = [0u64; 64];
     let whole = far();
     say(
         b"bound 2, 73 times 1.0: 73 nodes, 64 leaves, 27 vertices",
-        grows(2, whole, &mut keys, &mut distances, &mut leaves, 27),
+        grows(
+            2,
+            whole,
+            &mut keys,
+            &mut distances,
+            &mut firsts,
+            &mut leaves,
+            27,
+        ),
     );
 }
 
 fn say_of_81() {
     let mut keys = [0u64; 81];
     let mut distances = [0.0f32; 81];
+    let mut firsts = [0u16; 81];
     let mut leaves = [0u64; 71];
     let first = Field {
         key: 64,
@@ -414,20 +502,29 @@ fn say_of_81() {
     };
     say(
         b"bound 3, 0.0 for key 64, else 1.0: 81 nodes, 71 leaves, 34 vertices",
-        grows(3, first, &mut keys, &mut distances, &mut leaves, 34),
+        grows(
+            3,
+            first,
+            &mut keys,
+            &mut distances,
+            &mut firsts,
+            &mut leaves,
+            34,
+        ),
     );
-    say_of_tree(&keys, &distances, &leaves);
+    say_of_tree(&keys, &distances, &firsts, &leaves);
     say(
         b"that tree, one distance too many: not sound",
-        !tree::sound(&keys, &[0.0f32; 82], &leaves),
+        !tree::sound(&keys, &[0.0f32; 82], &firsts, &leaves),
     );
-    say_of_broken(&keys, &leaves);
+    say_of_broken(&keys, &firsts, &leaves);
+    say_of_firsts(&keys, &distances, firsts, &leaves);
     let least = leaves[0];
     leaves[0] = leaves[1];
     leaves[1] = least;
     say(
         b"that tree, two leaves exchanged: not sound",
-        !tree::sound(&keys, &distances, &leaves),
+        !tree::sound(&keys, &distances, &firsts, &leaves),
     );
 }
 
@@ -645,8 +742,12 @@ fn main() {
         is_refused_with_63(),
     );
     say(
-        b"bound 2, the key table shorter than at the start: 10 at the first distance",
+        b"bound 2, the key table or that of first children shorter than at the start: 10 at the first distance",
         is_refused_elsewhere(),
+    );
+    say(
+        b"bound 2, 1.0 throughout, 72 first children: 6 at the 73rd distance",
+        is_refused_past_72(),
     );
     say(
         b"bound 4, 0.0 throughout, tables of 4,200: 6 at the 4,097th distance",

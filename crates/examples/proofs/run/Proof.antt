@@ -10,53 +10,45 @@ abbrev Same : {A : Type 0} → List A → List A → Type 0
 Same xs ys = length xs ≡ length ys
 
 abbrev Inv-loop : tie.InvT-loop
-Inv-loop bound field most keys₀ distances₀ leaves₀ queue₀ t₀ left₀ keys distances leaves queue t left =
-    Same keys keys₀ × Same distances distances₀ × Same leaves leaves₀ × Same queue queue₀
+Inv-loop bound field most keys₀ distances₀ firsts₀ leaves₀ queue₀ t₀ left₀ keys distances firsts leaves queue t left =
+    Same keys keys₀ × Same distances distances₀ × Same firsts firsts₀ × Same leaves leaves₀ × Same queue queue₀
 
 abbrev μ-loop : tie.MeasureT-loop
-μ-loop bound field most keys₀ distances₀ leaves₀ queue₀ t₀ left₀ keys distances leaves queue t left = left
+μ-loop bound field most keys₀ distances₀ firsts₀ leaves₀ queue₀ t₀ left₀ keys distances firsts leaves queue t left = left
 
--- src/main.rt:95:17
 start-requires : tie.Need-start-requires Inv-loop μ-loop
 start-requires c κs = search needs
 
--- src/main.rt:99:5
 loop-holds : tie.Need-loop-holds Inv-loop μ-loop
-loop-holds c = (refl, refl, refl, refl)
+loop-holds c = (refl, refl, refl, refl, refl)
 
--- src/main.rt:100:13
 give-requires : tie.Need-give-requires Inv-loop μ-loop
 give-requires c κs = search needs
 
--- src/main.rt:102:9
 sub-left : tie.Need-sub-left Inv-loop μ-loop
 sub-left c = search needs
 
--- src/main.rt:99:5
 loop-less : tie.Need-loop-less Inv-loop μ-loop
 loop-less c = search needs
 
--- src/main.rt:99:5
 loop-again : tie.Need-loop-again Inv-loop μ-loop
 loop-again c = search needs
 
--- src/main.rt:86:1
 same-length : tie.Need-same-length Inv-loop μ-loop
 same-length c = c .before .loop .inv .0
 
--- src/main.rt:86:1
 same-length-2 : tie.Need-same-length-2 Inv-loop μ-loop
 same-length-2 c = c .before .loop .inv .1
 
--- src/main.rt:86:1
 same-length-3 : tie.Need-same-length-3 Inv-loop μ-loop
 same-length-3 c = c .before .loop .inv .2
 
--- src/main.rt:86:1
 same-length-4 : tie.Need-same-length-4 Inv-loop μ-loop
 same-length-4 c = c .before .loop .inv .3
 
--- src/main.rt:86:1
+same-length-5 : tie.Need-same-length-5 Inv-loop μ-loop
+same-length-5 c = c .before .loop .inv .4
+
 returns : tie.Need-returns Inv-loop μ-loop
 returns c = search needs
 
@@ -76,4 +68,5 @@ run-spec =
     same-length-2
     same-length-3
     same-length-4
+    same-length-5
     returns)
