@@ -144,14 +144,18 @@ module _ (n : Nodes) where
   steps-in p k e = leads-in (n .keys) (firstAt n p) (8 * k) e
 
   -- every place that is handed out lies inside, or is the root's
-  pub place-le : (l x : ℕ) → placeOver n l x ≤ length (n .keys)
+  pub place-inside : (l x : ℕ) → (placeOver n l x ≡ 0) ⊎ (placeOver n l x < length (n .keys))
   unfolding placeOver
-  place-le zero x = omega arith
-  place-le (suc l) x = go (isSplit n l (x / 8)) refl (place-le l (x / 8))
+  place-inside zero x = inl refl
+  place-inside (suc l) x = go (isSplit n l (x / 8)) refl (place-inside l (x / 8))
     where
-      go : (r : Bool) → isSplit n l (x / 8) ≡ r → placeOver n l (x / 8) ≤ length (n .keys) → if₀ r (reach n (suc l) x) (placeOver n l (x / 8)) ≤ length (n .keys)
-      go true e h = omega (arith, reach-down l x, steps-in (reach n l (x / 8)) (x / 8) (split-steps l (x / 8) e) .1)
+      go : (r : Bool) → isSplit n l (x / 8) ≡ r → (placeOver n l (x / 8) ≡ 0) ⊎ (placeOver n l (x / 8) < length (n .keys))
+          → (if₀ r (reach n (suc l) x) (placeOver n l (x / 8)) ≡ 0) ⊎ (if₀ r (reach n (suc l) x) (placeOver n l (x / 8)) < length (n .keys))
+      go true e h = inr (omega (arith, reach-down l x, steps-in (reach n l (x / 8)) (x / 8) (split-steps l (x / 8) e) .1))
       go false e h = h
+
+  pub place-le : (l x : ℕ) → placeOver n l x ≤ length (n .keys)
+  place-le l x = ⊎-elim (λ z. omega arith) (λ h. omega arith) (place-inside l x)
 
   -- and it is that of a first child, or of one of the eight from there on
   pub place-near : ((i : ℕ) → getD (n .firsts) i 0 < 2 ^ 16) → (l x : ℕ) → placeOver n l x < 2 ^ 16 + 7
