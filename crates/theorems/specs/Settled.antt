@@ -6,7 +6,7 @@ use mathlib.Core.Bool.{Bool, _&&_}
 use mathlib.Core.List.{List}
 use lib.Dec.{leb}
 use lib.Ieee.{Float}
-use lib.ListN.{length}
+use lib.ListN.{getD}
 use Rattle.morton.specs.declared.Key.{Key}
 use Rattle.morton.specs.declared.KeyAnswer.{KeyAnswer}
 use Rattle.morton.specs.Answers.{childOf, vertexAnswer, sideAnswer, HalfSizeSays, CentreSays, ExtentSays}
@@ -19,7 +19,8 @@ use Rattle.floats.proofs.Patterns.{PatternOf}
 use Rattle.floats.proofs.One as floats
 use Rattle.tree.specs.declared.Lookup.{Lookup}
 use Rattle.tree.specs.Tree.{Tree, StandsAt, Sound, Decides}
-use Rattle.tree.specs.Climb.{LookupSays, firstFrom, climbOf, trustingOf}
+use Rattle.tree.specs.Down.{Nodes, leads}
+use Rattle.tree.specs.Climb.{LookupSays, trustingOf}
 use Rattle.tree.proofs.One as tree
 use Rattle.build.specs.declared.Request.{Request}
 use Rattle.build.specs.declared.State.{State}
@@ -116,31 +117,31 @@ stands-one = tree.stands-one
 pub sound-one : (t : Tree) → OnlyOne (λ (r : Bool). Decides r (Sound t))
 sound-one = tree.sound-one
 
-pub first-from-one : (ks : List ℕ) (k : ℕ) → OnlyOne (λ (r : ℕ). r ≡ firstFrom ks (length ks) k)
-first-from-one = tree.first-from-one
+pub first-at-one : (fs : List ℕ) (place : ℕ) → OnlyOne (λ (r : ℕ). r ≡ getD fs place 0)
+first-at-one = tree.first-at-one
 
-pub climb-one : (ks : List ℕ) (ds : List Float) (k : ℕ) → OnlyOne (λ (r : Lookup). r ≡ climbOf ks ds k)
-climb-one = tree.climb-one
+pub leads-one : (ks : List ℕ) (first child : ℕ) → OnlyOne (λ (r : Bool). r ≡ leads ks first child)
+leads-one = tree.leads-one
 
 pub look-up-one : (t : Tree) (asked : ℕ) → OnlyOne (LookupSays t asked)
 look-up-one = tree.look-up-one
 
-pub look-up-trusting-one : (ks : List ℕ) (ds : List Float) (k : ℕ) → OnlyOne (λ (r : Lookup). r ≡ trustingOf ks ds k)
+pub look-up-trusting-one : (ks : Nodes) (ds : List Float) (k : ℕ) → OnlyOne (λ (r : Lookup). r ≡ trustingOf ks ds k)
 look-up-trusting-one = tree.look-up-trusting-one
 
 pub list-one : (t : Tree) (start : ℕ) (was : Lists) → OnlyOne (λ (o : Lists × ListAnswer). ListSays t start was (o .0) (o .1))
 list-one = vertices.list-one
 
-pub list-trusting-one : (ks : List ℕ) (start : ℕ) (was : Lists) → OnlyOne (λ (o : Lists × ListAnswer). ListTrustingSays ks start was (o .0) (o .1))
+pub list-trusting-one : (ks : Nodes) (start : ℕ) (was : Lists) → OnlyOne (λ (o : Lists × ListAnswer). ListTrustingSays ks start was (o .0) (o .1))
 list-trusting-one = vertices.list-trusting-one
 
-pub cells-trusting-one : (ks : List ℕ) (from : ℕ) (was : Cells) → OnlyOne (λ (o : Cells × ℕ). CellsSays ks from was (o .0) (o .1))
+pub cells-trusting-one : (ks : Nodes) (from : ℕ) (was : Cells) → OnlyOne (λ (o : Cells × ℕ). CellsSays ks from was (o .0) (o .1))
 cells-trusting-one = vertices.cells-trusting-one
 
 pub dual-cell-one : (t : Tree) (L v : ℕ) → OnlyOne (λ (r : Dual). DualSays t L v (r .keys) (r .distances) (r .tried))
 dual-cell-one = dual.dual-cell-one
 
-pub dual-cell-trusting-one : (ks : List ℕ) (ds : List Float) (L v : ℕ) → OnlyOne (λ (r : Dual). DualTrustingSays ks ds L v (r .keys) (r .distances) (r .tried))
+pub dual-cell-trusting-one : (ks : Nodes) (ds : List Float) (L v : ℕ) → OnlyOne (λ (r : Dual). DualTrustingSays ks ds L v (r .keys) (r .distances) (r .tried))
 dual-cell-trusting-one = dual.dual-cell-trusting-one
 
 pub slab-one : (v L s : ℕ) → OnlyOne (λ (r : SlabAnswer). r ≡ slabAnswer v L s)
@@ -210,16 +211,16 @@ mittenhelm-dual-cell-one = reading.dual-cell-one
 pub mittenhelm-slab-one : (v L e was : ℕ) → OnlyOne (λ (r : ℕ × ℕ). HandsSlab (slabAnswer v L e) was (r .0) (r .1))
 mittenhelm-slab-one = reading.slab-one
 
-pub mittenhelm-look-up-trusting-one : (ks : List ℕ) (ds : List Float) (k : ℕ) (was : Found) → OnlyOne (λ (r : ℕ × Found). HandsFound (trustingOf ks ds k) was (r .0) (r .1))
+pub mittenhelm-look-up-trusting-one : (ks : Nodes) (ds : List Float) (k : ℕ) (was : Found) → OnlyOne (λ (r : ℕ × Found). HandsFound (trustingOf ks ds k) was (r .0) (r .1))
 mittenhelm-look-up-trusting-one = trusting.look-up-trusting-one
 
-pub mittenhelm-list-trusting-one : (ks : List ℕ) (start was : ℕ) (before : Lists) → OnlyOne (λ (r : Lists × (ℕ × ℕ)). HandsTrustedList ks start before (r .0) was (r .1 .0) (r .1 .1))
+pub mittenhelm-list-trusting-one : (ks : Nodes) (start was : ℕ) (before : Lists) → OnlyOne (λ (r : Lists × (ℕ × ℕ)). HandsTrustedList ks start before (r .0) was (r .1 .0) (r .1 .1))
 mittenhelm-list-trusting-one = trusting.list-trusting-one
 
-pub mittenhelm-cells-trusting-one : (ks : List ℕ) (from : ℕ) (was : Cells) → OnlyOne (λ (r : Cells × ℕ). CellsSays ks from was (r .0) (r .1))
+pub mittenhelm-cells-trusting-one : (ks : Nodes) (from : ℕ) (was : Cells) → OnlyOne (λ (r : Cells × ℕ). CellsSays ks from was (r .0) (r .1))
 mittenhelm-cells-trusting-one = trusting.cells-trusting-one
 
-pub mittenhelm-dual-cell-trusting-one : (ks : List ℕ) (ds : List Float) (L v : ℕ) (was : Eight) → OnlyOne (λ (r : ℕ × Eight). HandsTrustedDual ks ds L v was (r .0) (r .1))
+pub mittenhelm-dual-cell-trusting-one : (ks : Nodes) (ds : List Float) (L v : ℕ) (was : Eight) → OnlyOne (λ (r : ℕ × Eight). HandsTrustedDual ks ds L v was (r .0) (r .1))
 mittenhelm-dual-cell-trusting-one = trusting.dual-cell-trusting-one
 
 -- ---- what hands an answer to a host

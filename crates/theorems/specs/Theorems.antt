@@ -13,9 +13,11 @@ use Rattle.morton.specs.Split.{splits}
 use Rattle.morton.specs.Vertex.{isInner, sideOf}
 use Rattle.tree.specs.declared.Lookup.{Lookup}
 use Rattle.tree.specs.declared.Lookup.the-variants.{Found}
-use Rattle.tree.specs.Tree.{Tree, StandsAt, In, Ascending, AllFinite, Sound, Decides}
+use Rattle.tree.specs.Tree.{Tree, StandsAt, In, Ascending, AllFinite, FirstChild, Sound, Decides}
 use Rattle.tree.specs.Climb.{LookupSays, triedIn, trustingOf}
-use Rattle.tree.proofs.Climbing as climbing
+use Rattle.tree.specs.Down.{Nodes}
+use Rattle.tree.proofs.Finding.{nodes}
+use Rattle.tree.proofs.Finding as finding
 use Rattle.tree.proofs.One as tree
 use Rattle.geometry.specs.Grid.{liesIn, holders, volumes}
 use Rattle.geometry.specs.Listing.{Listed}
@@ -101,6 +103,10 @@ module _ (bound : ℕ) (lent : Tables) (given : List Float) (s : State) (t : Tab
   pub cells-by-rule : nodeKeys s t ++ openCells s t ≡ 1 ∷ childrenOf bound (nodeKeys s t) (reverse given)
   cells-by-rule = whole .cells
 
+  -- beside each node stands the place of the first of its eight children in that order, or 0 for a leaf;
+  pub firsts-in-order : (i : ℕ) → i < s .nodes → FirstChild (nodeKeys s t ++ openCells s t) (getD (t .keys) i 0) (getD (t .firsts) i 0)
+  firsts-in-order = whole .firsts
+
   -- a finished tree has its n keys and n distances in the first places, and its m leaves with 7n + 1 = 8m; keys and leaves ascend.
   pub distances-in-order : take (s .nodes) (t .distances) ≡ reverse given
   distances-in-order = whole .distances
@@ -120,22 +126,22 @@ module _ (bound : ℕ) (lent : Tables) (given : List Float) (s : State) (t : Tab
 
 -- ---- a host behind the C boundary
 
--- What is written of a state is read back, what is read is written back, and it is eight words.
+-- What is written of a state is read back, what is read is written back, and it is nine words.
 pub read-back : (s : State) → stateOf (wordsOf s) ≡ s
 read-back = header.read-back
 
-pub written-back : (words : List ℕ) → length words ≡ 8 → wordsOf (stateOf words) ≡ words
+pub written-back : (words : List ℕ) → length words ≡ 9 → wordsOf (stateOf words) ≡ words
 written-back = header.written-back
 
-pub words-are-eight : (s : State) → length (wordsOf s) ≡ 8
-words-are-eight = header.words-are-eight
+pub words-are-nine : (s : State) → length (wordsOf s) ≡ 9
+words-are-nine = header.words-are-nine
 
 -- What a host's calls do is a build as above, and each build is in its reach.
 pub is-a-build : (host : Host) (bound : ℕ) (lent : Tables) (given : List Float) (words : List ℕ) (t : Tables)
     → HostRun host bound lent given words t → Run bound lent given (stateOf words) t
 is-a-build = hosts.is-a-build
 
-pub in-reach : (host : Host) → length (host .words) ≡ 8
+pub in-reach : (host : Host) → length (host .words) ≡ 9
     → (bound : ℕ) (lent : Tables) (given : List Float) (s : State) (t : Tables)
     → Run bound lent given s t → HostRun host bound lent given (wordsOf s) t
 in-reach = hosts.in-reach
@@ -183,7 +189,7 @@ pub brought-back-later : (host : Host) (bound : ℕ) (lent : Tables) (given : Li
 brought-back-later = hosts.goes-on-as-before
 
 -- and anywhere.
-pub brought-back-anywhere : (host other : Host) → length (other .words) ≡ 8
+pub brought-back-anywhere : (host other : Host) → length (other .words) ≡ 9
     → (bound : ℕ) (lent : Tables) (given : List Float) (words : List ℕ) (t : Tables)
     → HostRun host bound lent given words t → HostRun other bound lent given words t
 brought-back-anywhere = hosts.brought-back-anywhere
@@ -301,40 +307,40 @@ dual-finite = dual.dual-finite
 
 -- At most 21 keys are tried.
 pub tried-most : (t : Tree) (asked : ℕ) (r : Lookup) → LookupSays t asked r → triedIn r ≤ 21
-tried-most = climbing.tried-most
+tried-most = finding.tried-most
 
 -- ---- of a sound tree, those that trust it answer as those that check it
 
-pub trusting-is-look-up : (t : Tree) → Sound t → (asked : ℕ) (a : Lookup) → LookupSays t asked a → a ≡ trustingOf (t .keys) (t .distances) asked
+pub trusting-is-look-up : (t : Tree) → Sound t → (asked : ℕ) (a : Lookup) → LookupSays t asked a → a ≡ trustingOf (nodes t) (t .distances) asked
 trusting-is-look-up = tree.trusting-is-look-up
 
 pub list-same : (t : Tree) (start : ℕ) (was : Lists) → Sound t → (o p : Lists × ListAnswer)
-    → ListTrustingSays (t .keys) start was (o .0) (o .1) → ListSays t start was (p .0) (p .1) → o ≡ p
+    → ListTrustingSays (nodes t) start was (o .0) (o .1) → ListSays t start was (p .0) (p .1) → o ≡ p
 list-same = vertices.list-same
 
 pub trusting-is-dual-cell : (t : Tree) → Sound t → (L v : ℕ) → v < 2 ^ 64 → (r s : Dual)
-    → DualSays t L v (r .keys) (r .distances) (r .tried) → DualTrustingSays (t .keys) (t .distances) L v (s .keys) (s .distances) (s .tried) → r ≡ s
+    → DualSays t L v (r .keys) (r .distances) (r .tried) → DualTrustingSays (nodes t) (t .distances) L v (s .keys) (s .distances) (s .tried) → r ≡ s
 trusting-is-dual-cell = dual.trusting-is-dual-cell
 
 -- The nodes that are handed out with a vertex are those of its dual cell: entry i of vertex j stands at place 8j + i.
-pub cells-right : (t : Tree) → Sound t → (from : ℕ) (was left : Cells) (n : ℕ) → CellsSays (t .keys) from was left n → (j i : ℕ) → j < n → i < 8
+pub cells-right : (t : Tree) → Sound t → (from : ℕ) (was left : Cells) (n : ℕ) → CellsSays (nodes t) from was left n → (j i : ℕ) → j < n → i < 8
     → EntryAt t (getD (left .levels) j 0) (getD (left .vertices) j 0) i (getD (left .places) (8 * j + i) 0)
 cells-right = rounds.cells-right
 
 -- ---- a host that is handed vertices some at a time
 
--- It begins with 0, goes on with the last vertex + 1, a number of 64 bits, and is done when fewer came than have room: of any keys at all it then has each vertex once.
-pub number-fits : (ks : List ℕ) (calls from : ℕ) (got : Cells) → Batches ks calls from got → from < 2 ^ 64
+-- It begins with 0, goes on with the last vertex + 1, a number of 64 bits, and is done when fewer came than have room: of any tables at all it then has each vertex once.
+pub number-fits : (ks : Nodes) (calls from : ℕ) (got : Cells) → Batches ks calls from got → from < 2 ^ 64
 number-fits ks calls from got b = batches.of-full-batches ks calls from got b .fits
 
-pub batches-all : (ks : List ℕ) (calls : ℕ) (got : Cells) → Done ks calls got → got ≡ cellsOf (verticesOf (spotsOf ks)) (levelsOf (spotsOf ks)) (placesOf ks (spotsOf ks))
+pub batches-all : (ks : Nodes) (calls : ℕ) (got : Cells) → Done ks calls got → got ≡ cellsOf (verticesOf (spotsOf ks)) (levelsOf (spotsOf ks)) (placesOf ks (spotsOf ks))
 batches-all ks calls got d = batches.of-all-batches ks calls got d .all
 
-pub batches-end : (ks : List ℕ) (calls : ℕ) (got : Cells) → Done ks calls got → calls ≤ length (got .vertices) + 1
+pub batches-end : (ks : Nodes) (calls : ℕ) (got : Cells) → Done ks calls got → calls ≤ length (got .vertices) + 1
 batches-end ks calls got d = batches.of-all-batches ks calls got d .ends
 
 -- Of a sound tree these are its list.
-pub batches-listed : (t : Tree) → Sound t → (calls : ℕ) (got : Cells) → Done (t .keys) calls got → Listed (t .leaves) (got .vertices) (got .levels)
+pub batches-listed : (t : Tree) → Sound t → (calls : ℕ) (got : Cells) → Done (nodes t) calls got → Listed (t .leaves) (got .vertices) (got .levels)
 batches-listed t sound calls got d = batches.of-sound-trees-in-batches t sound calls got d .listed
 
 -- ---- the program `counts`
