@@ -1,14 +1,15 @@
 -- What README and the header tell of builds and trees as proved, beside the one answer of each call: sentence by sentence, by name and with its statement.
-use Prim.Native.Nat.{ℕ, _+_, _*_, _-_, _^_, _≤_, _<_}
+use Prim.Native.Nat.{ℕ, _+_, _*_, _-_, _/_, _^_, _≤_, _<_}
 use mathlib.Core.Path.{_≡_}
 use mathlib.Core.Bool.{true, false, not}
+use mathlib.Core.Logic.{_⊎_}
 use mathlib.Core.List.{List, _∷_, _++_, reverse}
 use lib.Ieee.{Float, nan}
 use lib.Ieee.Scale.{finite}
 use lib.ListN.{length, getD, take}
 use Rattle.morton.specs.Exact.{Exactly}
 use Rattle.morton.specs.Field.{coord}
-use Rattle.morton.specs.Level.{deepest, level, Cell}
+use Rattle.morton.specs.Level.{deepest, limit, level, Cell}
 use Rattle.morton.specs.Split.{splits}
 use Rattle.morton.specs.Vertex.{isInner, sideOf}
 use Rattle.tree.specs.declared.Lookup.{Lookup}
@@ -18,6 +19,7 @@ use Rattle.tree.specs.Climb.{LookupSays, triedIn, trustingOf}
 use Rattle.tree.specs.Down.{Nodes}
 use Rattle.tree.proofs.Finding.{nodes}
 use Rattle.tree.proofs.Finding as finding
+use Rattle.tree.proofs.Down as down
 use Rattle.tree.proofs.One as tree
 use Rattle.geometry.specs.Grid.{liesIn, holders, volumes}
 use Rattle.geometry.specs.Listing.{Listed}
@@ -29,8 +31,10 @@ use Rattle.build.proofs.Asking as asking
 use Rattle.vertices.specs.declared.ListAnswer.{ListAnswer}
 use Rattle.vertices.specs.declared.ListAnswer.the-variants as list
 use Rattle.vertices.specs.Listing.{Lists, Room, ListSays, TrustingSays as ListTrustingSays}
-use Rattle.vertices.specs.Walk.{spotsOf, verticesOf, levelsOf}
+use Rattle.vertices.specs.Walk.{placeAt, visited, spotsOf, mostOf, verticesOf, levelsOf}
 use Rattle.vertices.specs.Cells.{placesOf, Cells, cellsOf, CellsSays}
+use Rattle.vertices.proofs.Entries as entries
+use Rattle.vertices.proofs.Linear as linear
 use Rattle.vertices.proofs.One as vertices
 use Rattle.vertices.proofs.Rounds.{EntryAt}
 use Rattle.vertices.proofs.Rounds as rounds
@@ -326,6 +330,29 @@ trusting-is-dual-cell = dual.trusting-is-dual-cell
 pub cells-right : (t : Tree) → Sound t → (from : ℕ) (was left : Cells) (n : ℕ) → CellsSays (nodes t) from was left n → (j i : ℕ) → j < n → i < 8
     → EntryAt t (getD (left .levels) j 0) (getD (left .vertices) j 0) i (getD (left .places) (8 * j + i) 0)
 cells-right = rounds.cells-right
+
+-- ---- first children
+
+-- The keys of a sound tree settle them.
+pub firsts-one : (t u : Tree) → Sound t → Sound u → t .keys ≡ u .keys → t .firsts ≡ u .firsts
+firsts-one = tree.firsts-one
+
+-- A sound tree has no more nodes than numbers of 16 bits can lead to.
+pub sound-few : (t : Tree) → Sound t → ((i : ℕ) → i < length (t .firsts) → getD (t .firsts) i 0 < 2 ^ 16) → length (t .keys) ≤ 65537
+sound-few = down.sound-few
+
+-- Of any tables at all, forged ones too: a list goes through at most 64 cells for each eight keys below the root, and one;
+pub steps-linear : (ks : Nodes) → visited limit ks 0 1 ≤ 64 * ((length (ks .keys) - 1) / 8) + 1
+steps-linear = linear.steps-linear
+
+-- it has at most 19 vertices for each;
+pub vertices-linear : (ks : Nodes) → length (spotsOf ks) ≤ 19 * ((length (ks .keys) - 1) / 8)
+unfolding mostOf
+vertices-linear = linear.vertices-linear
+
+-- and the places that are handed out with a vertex, those of entry o of a cell, lie inside or are 0.
+pub places-inside : (ks : Nodes) (l c o : ℕ) → (placeAt ks l c o ≡ 0) ⊎ (placeAt ks l c o < length (ks .keys))
+places-inside = entries.places-inside
 
 -- ---- a host that is handed vertices some at a time
 
