@@ -8,8 +8,8 @@ use native.Mathlib.Numerals.{add-one}
 use native.Mathlib.Decide.{decLe, decLt}
 use native.Mathlib.Omega.{arith}
 use lib.Bits.{bitAnd, bitOr, bitXor, or-add-and, and-le-l, and-comm}
-use borrow.Author.Tests.{ltb-true, ltb-false, eqb-true}
-use lib.Dec.{eqb, ltb}
+use borrow.Author.Tests.{ltb-true, ltb-false}
+use lib.Dec.{ltb}
 use lib.ListN.{length, getD, set, length-append}
 use lib.Seq.{sets}
 use Rattle.morton.specs.Level.{deepest, limit, if₀, Cell}
@@ -43,35 +43,10 @@ module _ (fs at : List ℕ) (mask child q o : ℕ) where
   unfolding loweredAt
   at-no p e m = e ∙ sym (ap (λ (r : Bool). if₀ r (getD fs (loweredPlace at mask q o) 0) (loweredPlace at mask q o)) m)
 
--- ---- no first child at eight places
+-- ---- no first child at some places
 
 pub or-none : (a b : ℕ) → bitOr a b ≡ 0 → (a ≡ 0) × (b ≡ 0)
 or-none a b e = (omega (arith, or-add-and a b, and-le-l a b, and-comm a b, and-le-l b a), omega (arith, or-add-and a b, and-le-l a b))
-
-pub eight-none : (f : ℕ → ℕ) → f 0 ≡ 0 → f 1 ≡ 0 → f 2 ≡ 0 → f 3 ≡ 0 → f 4 ≡ 0 → f 5 ≡ 0 → f 6 ≡ 0 → f 7 ≡ 0 → (w : ℕ) → w < 8 → f w ≡ 0
-eight-none f a b c d e g h i zero l = a
-eight-none f a b c d e g h i (suc zero) l = b
-eight-none f a b c d e g h i (suc (suc zero)) l = c
-eight-none f a b c d e g h i (suc (suc (suc zero))) l = d
-eight-none f a b c d e g h i (suc (suc (suc (suc zero)))) l = e
-eight-none f a b c d e g h i (suc (suc (suc (suc (suc zero))))) l = g
-eight-none f a b c d e g h i (suc (suc (suc (suc (suc (suc zero)))))) l = h
-eight-none f a b c d e g h i (suc (suc (suc (suc (suc (suc (suc zero))))))) l = i
-eight-none f a b c d e g h i (suc (suc (suc (suc (suc (suc (suc (suc w)))))))) l = absurd (omega arith)
-
-pub or-eight : (fs : List ℕ) (p : ℕ)
-    → eqb (bitOr (bitOr (bitOr (bitOr (getD fs p 0) (getD fs (p + 1) 0)) (getD fs (p + 2) 0)) (getD fs (p + 3) 0)) (bitOr (bitOr (bitOr (getD fs (p + 4) 0) (getD fs (p + 5) 0)) (getD fs (p + 6) 0)) (getD fs (p + 7) 0))) 0 ≡ true
-    → (w : ℕ) → w < 8 → getD fs (p + w) 0 ≡ 0
-or-eight fs p e =
-    let a = or-none _ _ (eqb-true _ 0 e) in
-    let l3 = or-none _ _ (a .0) in
-    let l2 = or-none _ _ (l3 .0) in
-    let l1 = or-none _ _ (l2 .0) in
-    let h3 = or-none _ _ (a .1) in
-    let h2 = or-none _ _ (h3 .0) in
-    let h1 = or-none _ _ (h2 .0) in
-    let z : p + 0 ≡ p = omega arith in
-    eight-none (λ w. getD fs (p + w) 0) (ap (λ (n : ℕ). getD fs n 0) z ∙ l1 .0) (l1 .1) (l2 .1) (l3 .1) (h1 .0) (h1 .1) (h2 .1) (h3 .1)
 
 -- what the table says, in the walk's words
 pub first-is : (n : Nodes) (p : ℕ) {x : ℕ} → getD (n .firsts) p 0 ≡ x → firstAt n p ≡ x

@@ -40,9 +40,13 @@ fn childless(firsts: &[u16], place: usize) -> bool
     if firsts.len() < place + 8 {
         return false;
     }
-    let low = firsts[place] | firsts[place + 1] | firsts[place + 2] | firsts[place + 3];
-    let high = firsts[place + 4] | firsts[place + 5] | firsts[place + 6] | firsts[place + 7];
-    low | high == 0
+    let mut any = 0u16;
+    let mut w: usize = 0;
+    while w < 8 {
+        any = any | firsts[place + w];
+        w += 1;
+    }
+    any == 0
 }
 
 // Which children of a node are split themselves, the first of them standing at a place.

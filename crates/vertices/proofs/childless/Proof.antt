@@ -1,118 +1,67 @@
 -- `childless` meets its contract: what is or-ed to 0 is 0. Assumes nothing.
-use mathlib.Core.Path.{sym}
+use Prim.Native.Nat.{ℕ, _+_, _-_, _≤_, _<_}
+use mathlib.Core.Path.{_≡_, sym}
 use mathlib.Core.Bool.{true≢false}
 use native.Mathlib.Omega.{arith}
 use borrow.Author.Needs.{needs}
-use denote.Ref.{now}
-use Rattle.vertices.proofs.Places.{or-eight}
+use borrow.Author.Count.{below-more}
+use borrow.Author.Tests.{eqb-true}
+use lib.ListN.{length, getD}
+use Rattle.vertices.proofs.Places.{or-none}
 use Rattle.vertices.proofs.childless.Statement.{statement}
 use Rattle.vertices.proofs.childless.Tie as tie
 
-add-if1 : tie.Need-add-if1
+abbrev Inv-loop : tie.InvT-loop
+Inv-loop firsts place any₀ w₀ any w = (w ≤ 8) × (place + 8 ≤ length firsts) × (any ≡ 0 → (v : ℕ) → v < w → getD firsts (place + v) 0 ≡ 0)
+
+abbrev μ-loop : tie.MeasureT-loop
+μ-loop firsts place any₀ w₀ any w = 8 - w
+
+add-if1 : tie.Need-add-if1 Inv-loop μ-loop
 add-if1 c = search needs
 
-returns : tie.Need-returns
+returns : tie.Need-returns Inv-loop μ-loop
 returns c = λ e. absurd (true≢false (sym e))
 
-mul-low : tie.Need-mul-low
-mul-low c = search needs
+loop-holds : tie.Need-loop-holds Inv-loop μ-loop
+loop-holds c = (omega arith, omega arith, λ e v h. omega arith)
 
-shared-slice-read-low : tie.Need-shared-slice-read-low
-shared-slice-read-low c = search needs
+add-any : tie.Need-add-any Inv-loop μ-loop
+add-any c = search needs
 
-add-low : tie.Need-add-low
-add-low c = search needs
+mul-any : tie.Need-mul-any Inv-loop μ-loop
+mul-any c = search needs
 
-mul-low-2 : tie.Need-mul-low-2
-mul-low-2 c = search needs
+shared-slice-read-any : tie.Need-shared-slice-read-any Inv-loop μ-loop
+shared-slice-read-any c = omega arith
 
-shared-slice-read-low-2 : tie.Need-shared-slice-read-low-2
-shared-slice-read-low-2 c = search needs
+add-w : tie.Need-add-w Inv-loop μ-loop
+add-w c = search needs
 
-add-low-2 : tie.Need-add-low-2
-add-low-2 c = search needs
+loop-less : tie.Need-loop-less Inv-loop μ-loop
+loop-less c = search needs
 
-mul-low-3 : tie.Need-mul-low-3
-mul-low-3 c = search needs
+loop-again : tie.Need-loop-again Inv-loop μ-loop
+loop-again c =
+    let l = c .before .before .loop in
+    (omega arith, omega arith, λ e. let n = or-none (l .any) _ e in below-more _ _ (l .inv .2 (n .0)) (n .1))
 
-shared-slice-read-low-3 : tie.Need-shared-slice-read-low-3
-shared-slice-read-low-3 c = search needs
-
-add-low-3 : tie.Need-add-low-3
-add-low-3 c = search needs
-
-mul-low-4 : tie.Need-mul-low-4
-mul-low-4 c = search needs
-
-shared-slice-read-low-4 : tie.Need-shared-slice-read-low-4
-shared-slice-read-low-4 c = search needs
-
-add-high : tie.Need-add-high
-add-high c = search needs
-
-mul-high : tie.Need-mul-high
-mul-high c = search needs
-
-shared-slice-read-high : tie.Need-shared-slice-read-high
-shared-slice-read-high c = search needs
-
-add-high-2 : tie.Need-add-high-2
-add-high-2 c = search needs
-
-mul-high-2 : tie.Need-mul-high-2
-mul-high-2 c = search needs
-
-shared-slice-read-high-2 : tie.Need-shared-slice-read-high-2
-shared-slice-read-high-2 c = search needs
-
-add-high-3 : tie.Need-add-high-3
-add-high-3 c = search needs
-
-mul-high-3 : tie.Need-mul-high-3
-mul-high-3 c = search needs
-
-shared-slice-read-high-3 : tie.Need-shared-slice-read-high-3
-shared-slice-read-high-3 c = search needs
-
-add-high-4 : tie.Need-add-high-4
-add-high-4 c = search needs
-
-mul-high-4 : tie.Need-mul-high-4
-mul-high-4 c = search needs
-
-shared-slice-read-high-4 : tie.Need-shared-slice-read-high-4
-shared-slice-read-high-4 c = search needs
-
-returns-2 : tie.Need-returns-2
-returns-2 c = or-eight (now (c .before .before .before .before .before .before .before .before .before .args .firsts)) (c .before .before .before .before .before .before .before .before .before .args .place)
+returns-2 : tie.Need-returns-2 Inv-loop μ-loop
+returns-2 c = λ e v h. c .before .loop .inv .2 (eqb-true _ 0 e) v (omega arith)
 
 pub childless-spec : {M : Type 1} → statement M
 childless-spec =
     tie.close
     (tie.spec
+    Inv-loop
+    μ-loop
     add-if1
     returns
-    mul-low
-    shared-slice-read-low
-    add-low
-    mul-low-2
-    shared-slice-read-low-2
-    add-low-2
-    mul-low-3
-    shared-slice-read-low-3
-    add-low-3
-    mul-low-4
-    shared-slice-read-low-4
-    add-high
-    mul-high
-    shared-slice-read-high
-    add-high-2
-    mul-high-2
-    shared-slice-read-high-2
-    add-high-3
-    mul-high-3
-    shared-slice-read-high-3
-    add-high-4
-    mul-high-4
-    shared-slice-read-high-4
+    loop-holds
+    add-any
+    mul-any
+    shared-slice-read-any
+    add-w
+    loop-less
+    loop-again
     returns-2)
