@@ -184,9 +184,9 @@ uint32_t mittenhelm_list_trusting(
 
 /* Writes the vertices that are no less than `from`, ascending and each with its level, as many as have room in all three tables,
  * and answers how many; `places` takes eight for each: where in keys and distances the nodes of its dual cell stand, in corner
- * order. A place is below the number of keys, or 0, of any tables. A host with room for one at least begins with `from` 0, goes on
- * with the last vertex + 1, and is done when fewer came than have room: that it then has each vertex once, of any tables at all, is
- * proved (crates/demands/specs/Batches.antt). No refusal. */
+ * order. A place is below the number of keys, or 0, of any tables (`places-inside`). A host with room for one at least begins with
+ * `from` 0, goes on with the last vertex + 1, and is done when fewer came than have room: that it then has each vertex once, of any
+ * tables at all, is proved (crates/demands/specs/Batches.antt). No refusal. */
 size_t mittenhelm_cells_trusting(
     const uint64_t *keys, size_t keys_length, const uint16_t *firsts, size_t firsts_length,
     uint64_t from, uint64_t *vertices, size_t vertices_length, uint8_t *levels, size_t levels_length,
