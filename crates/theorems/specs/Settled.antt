@@ -18,9 +18,10 @@ use Rattle.morton.proofs.One as morton
 use Rattle.floats.proofs.Patterns.{PatternOf}
 use Rattle.floats.proofs.One as floats
 use Rattle.tree.specs.declared.Lookup.{Lookup}
+use Rattle.tree.specs.declared.Node.{Node}
 use Rattle.tree.specs.Tree.{Tree, StandsAt, Sound, Decides}
-use Rattle.tree.specs.Down.{Nodes, leads}
-use Rattle.tree.specs.Climb.{LookupSays, trustingOf}
+use Rattle.tree.specs.Down.{Nodes, leads, NodeSays}
+use Rattle.tree.specs.Climb.{LookupSays, distanceAt, trustingOf}
 use Rattle.tree.proofs.One as tree
 use Rattle.build.specs.declared.Request.{Request}
 use Rattle.build.specs.declared.State.{State}
@@ -122,6 +123,12 @@ first-at-one = tree.first-at-one
 
 pub leads-one : (ks : List ℕ) (first child : ℕ) → OnlyOne (λ (r : Bool). r ≡ leads ks first child)
 leads-one = tree.leads-one
+
+pub go-down-one : (n : Nodes) (L x : ℕ) → OnlyOne (λ (r : Node). NodeSays n L x (r .level) (r .place))
+go-down-one = tree.go-down-one
+
+pub distance-at-one : (ds : List Float) (place : ℕ) → OnlyOne (λ (r : Float). r ≡ distanceAt ds place)
+distance-at-one = tree.distance-at-one
 
 pub look-up-one : (t : Tree) (asked : ℕ) → OnlyOne (LookupSays t asked)
 look-up-one = tree.look-up-one
