@@ -1,21 +1,20 @@
 -- The way down from the root: step by step on any tables, and where it leads in a sound tree. Assumes nothing.
 use Prim.Native.Nat.{ℕ, zero, suc, _+_, _*_, _-_, _/_, _%_, _^_, _≤_, _<_}
-use mathlib.Core.Path.{_≡_, refl, sym, _∙_, ap, ap₂, subst}
-use mathlib.Core.Bool.{Bool, true, false, _&&_, true≢false}
-use mathlib.Core.Logic.{_⊎_, inl, inr, ⊎-elim}
+use mathlib.Core.Path.{_≡_, refl, sym, ap, ap₂, subst}
+use mathlib.Core.Bool.{Bool, true, false, _&&_}
+use mathlib.Core.Logic.{⊎-elim}
 use mathlib.Core.List.{List}
 use native.Mathlib.Nat.{pow-suc}
-use native.Mathlib.Decide.{decLt}
 use native.Mathlib.Omega.{arith}
 use lib.Dec.{eqb, ltb}
 use lib.ListN.{length, getD}
 use borrow.Author.Tests.{lt-ltb, le-ltb, ltb-true, eq-eqb, ne-eqb, eqb-true}
-use Rattle.morton.specs.Level.{if₀, Cell, level, parentOf}
+use Rattle.morton.specs.Level.{if₀, Cell}
 use Rattle.morton.proofs.Levels.{and-true, eight-pos}
-use Rattle.tree.specs.Tree.{Tree, StandsAt, In, Ascending, AllChildren, NoChild, FirstChild, Sound, Decides}
+use Rattle.tree.specs.Tree.{Tree, StandsAt, In, FirstChild, Sound, Decides}
 use Rattle.tree.specs.Down.{Nodes, nodesOf, firstAt, leads, steps, reach, isSplit, over, placeOver, levelOver}
-use Rattle.tree.proofs.Lists.{order, in-at, in-cast, in-stands, stands-in, ascending-place}
-use Rattle.tree.proofs.Pass.{said, denied, up≤, up-back, eighth}
+use Rattle.tree.proofs.Lists.{order, in-at, in-cast, in-stands, stands-in}
+use Rattle.tree.proofs.Pass.{denied, up≤, up-back, run-at, parent-up, siblings, later, beside}
 
 -- ---- leading
 
@@ -47,6 +46,11 @@ module _ (ks : List ℕ) (first child : ℕ) where
 
 -- ---- the way down, on any tables
 
+-- what holds of a number that is chosen
+chosen : (P : ℕ → Type 0) (r : Bool) {a b : ℕ} → (r ≡ true → P a) → (r ≡ false → P b) → P (if₀ r a b)
+chosen P true f g = f refl
+chosen P false f g = g refl
+
 module _ (n : Nodes) where
   pub split-steps : (l x : ℕ) → isSplit n l x ≡ true → steps n (reach n l x) x ≡ true
   unfolding isSplit
@@ -66,77 +70,55 @@ module _ (n : Nodes) where
   unfolding reach
   reach-down l x = refl
 
-  pub over-down : (l x : ℕ) → isSplit n l (x / 8) ≡ true → over n (suc l) x ≡ x
-  unfolding over
-  over-down l x e = ap (λ (r : Bool). if₀ r x (over n l (x / 8))) e
+  -- by whether the cell above is split
+  module _ (l x : ℕ) {r : Bool} (e : isSplit n l (x / 8) ≡ r) where
+    pub over-next : over n (suc l) x ≡ if₀ r x (over n l (x / 8))
+    unfolding over
+    over-next = ap (λ (r : Bool). if₀ r x (over n l (x / 8))) e
 
-  pub over-stay : (l x : ℕ) → isSplit n l (x / 8) ≡ false → over n (suc l) x ≡ over n l (x / 8)
-  unfolding over
-  over-stay l x e = ap (λ (r : Bool). if₀ r x (over n l (x / 8))) e
+    pub place-next : placeOver n (suc l) x ≡ if₀ r (reach n (suc l) x) (placeOver n l (x / 8))
+    unfolding placeOver
+    place-next = ap (λ (r : Bool). if₀ r (reach n (suc l) x) (placeOver n l (x / 8))) e
 
-  pub place-down : (l x : ℕ) → isSplit n l (x / 8) ≡ true → placeOver n (suc l) x ≡ reach n (suc l) x
-  unfolding placeOver
-  place-down l x e = ap (λ (r : Bool). if₀ r (reach n (suc l) x) (placeOver n l (x / 8))) e
-
-  pub place-stay : (l x : ℕ) → isSplit n l (x / 8) ≡ false → placeOver n (suc l) x ≡ placeOver n l (x / 8)
-  unfolding placeOver
-  place-stay l x e = ap (λ (r : Bool). if₀ r (reach n (suc l) x) (placeOver n l (x / 8))) e
-
-  pub level-down : (l x : ℕ) → isSplit n l (x / 8) ≡ true → levelOver n (suc l) x ≡ suc l
-  unfolding levelOver
-  level-down l x e = ap (λ (r : Bool). if₀ r (suc l) (levelOver n l (x / 8))) e
-
-  pub level-stay : (l x : ℕ) → isSplit n l (x / 8) ≡ false → levelOver n (suc l) x ≡ levelOver n l (x / 8)
-  unfolding levelOver
-  level-stay l x e = ap (λ (r : Bool). if₀ r (suc l) (levelOver n l (x / 8))) e
+    pub level-next : levelOver n (suc l) x ≡ if₀ r (suc l) (levelOver n l (x / 8))
+    unfolding levelOver
+    level-next = ap (λ (r : Bool). if₀ r (suc l) (levelOver n l (x / 8))) e
 
   pub level-most : (l x : ℕ) → levelOver n l x ≤ l
   unfolding levelOver
   level-most zero x = omega arith
-  level-most (suc l) x = go (isSplit n l (x / 8)) (level-most l (x / 8))
-    where
-      go : (r : Bool) → levelOver n l (x / 8) ≤ l → if₀ r (suc l) (levelOver n l (x / 8)) ≤ suc l
-      go true h = omega arith
-      go false h = omega arith
+  level-most (suc l) x = chosen (λ m. m ≤ suc l) (isSplit n l (x / 8)) (λ e. omega arith) (λ e. omega (arith, level-most l (x / 8)))
 
   -- a split node is the node over itself
   pub over-split : (l x : ℕ) → isSplit n l x ≡ true → over n l x ≡ x
   unfolding over
   over-split zero x e = refl
-  over-split (suc l) x e = over-down l x (split-up l x e)
+  over-split (suc l) x e = over-next l x (split-up l x e)
 
   pub place-split : (l x : ℕ) → isSplit n l x ≡ true → placeOver n l x ≡ reach n l x
   unfolding placeOver reach
   place-split zero x e = refl
-  place-split (suc l) x e = place-down l x (split-up l x e)
+  place-split (suc l) x e = place-next l x (split-up l x e)
 
   pub over-le : (l x : ℕ) → over n l x ≤ x
   unfolding over
   over-le zero x = omega arith
-  over-le (suc l) x = go (isSplit n l (x / 8)) (over-le l (x / 8))
-    where
-      go : (r : Bool) → over n l (x / 8) ≤ x / 8 → if₀ r x (over n l (x / 8)) ≤ x
-      go true h = omega arith
-      go false h = omega arith
+  over-le (suc l) x = chosen (λ m. m ≤ x) (isSplit n l (x / 8)) (λ e. omega arith) (λ e. omega (arith, over-le l (x / 8)))
 
   pub over-pos : (l x : ℕ) → Cell l x → 0 < over n l x
   unfolding over
   over-pos zero x c = omega (arith, c .low)
-  over-pos (suc l) x c = go (isSplit n l (x / 8)) (over-pos l (x / 8) (record { low = omega (arith, c .low, pow-suc 8 l); high = omega (arith, c .high, pow-suc 8 l) }))
-    where
-      go : (r : Bool) → 0 < over n l (x / 8) → 0 < if₀ r x (over n l (x / 8))
-      go true h = omega (arith, c .low, eight-pos (suc l))
-      go false h = h
+  over-pos (suc l) x c =
+      let up : Cell l (x / 8) = record { low = omega (arith, c .low, pow-suc 8 l); high = omega (arith, c .high, pow-suc 8 l) } in
+      chosen (λ m. 0 < m) (isSplit n l (x / 8)) (λ e. omega (arith, c .low, eight-pos (suc l))) (λ e. over-pos l (x / 8) up)
 
   -- a node of the cell's own level is that cell
   pub over-same : (l x : ℕ) → Cell l x → 8 ^ l ≤ over n l x → over n l x ≡ x
   unfolding over
-  over-same zero x c h = refl
-  over-same (suc l) x c h = go (isSplit n l (x / 8)) h
-    where
-      go : (r : Bool) → 8 ^ suc l ≤ if₀ r x (over n l (x / 8)) → if₀ r x (over n l (x / 8)) ≡ x
-      go true h = refl
-      go false h = absurd (omega (arith, over-le l (x / 8), c .high, pow-suc 8 l, eight-pos l))
+  over-same zero x c = λ h. refl
+  over-same (suc l) x c =
+      chosen (λ m. 8 ^ suc l ≤ m → m ≡ x) (isSplit n l (x / 8)) (λ e h. refl)
+      (λ e h. absurd (omega (arith, over-le l (x / 8), c .high, pow-suc 8 l, eight-pos l)))
 
   -- where a step leads to
   pub steps-in : (p k : ℕ) → steps n p k ≡ true → (firstAt n p % 8 ≡ 1) × (firstAt n p + 7 < length (n .keys)) × (getD (n .keys) (firstAt n p) 0 ≡ 8 * k)
@@ -147,12 +129,9 @@ module _ (n : Nodes) where
   pub place-inside : (l x : ℕ) → (placeOver n l x ≡ 0) ⊎ (placeOver n l x < length (n .keys))
   unfolding placeOver
   place-inside zero x = inl refl
-  place-inside (suc l) x = go (isSplit n l (x / 8)) refl (place-inside l (x / 8))
-    where
-      go : (r : Bool) → isSplit n l (x / 8) ≡ r → (placeOver n l (x / 8) ≡ 0) ⊎ (placeOver n l (x / 8) < length (n .keys))
-          → (if₀ r (reach n (suc l) x) (placeOver n l (x / 8)) ≡ 0) ⊎ (if₀ r (reach n (suc l) x) (placeOver n l (x / 8)) < length (n .keys))
-      go true e h = inr (omega (arith, reach-down l x, steps-in (reach n l (x / 8)) (x / 8) (split-steps l (x / 8) e) .1))
-      go false e h = h
+  place-inside (suc l) x =
+      chosen (λ p. (p ≡ 0) ⊎ (p < length (n .keys))) (isSplit n l (x / 8))
+      (λ e. inr (omega (arith, reach-down l x, steps-in (reach n l (x / 8)) (x / 8) (split-steps l (x / 8) e) .1))) (λ e. place-inside l (x / 8))
 
   pub place-le : (l x : ℕ) → placeOver n l x ≤ length (n .keys)
   place-le l x = ⊎-elim (λ z. omega arith) (λ h. omega arith) (place-inside l x)
@@ -161,48 +140,19 @@ module _ (n : Nodes) where
   pub place-near : ((i : ℕ) → getD (n .firsts) i 0 < 2 ^ 16) → (l x : ℕ) → placeOver n l x < 2 ^ 16 + 7
   unfolding placeOver firstAt
   place-near k zero x = omega arith
-  place-near k (suc l) x = go (isSplit n l (x / 8)) (place-near k l (x / 8))
-    where
-      go : (r : Bool) → placeOver n l (x / 8) < 2 ^ 16 + 7 → if₀ r (reach n (suc l) x) (placeOver n l (x / 8)) < 2 ^ 16 + 7
-      go true h = omega (arith, reach-down l x, k (reach n l (x / 8)))
-      go false h = h
+  place-near k (suc l) x =
+      chosen (λ p. p < 2 ^ 16 + 7) (isSplit n l (x / 8)) (λ e. omega (arith, reach-down l x, k (reach n l (x / 8)))) (λ e. place-near k l (x / 8))
 
 -- ---- in a sound tree
-
--- keys in a row
-pub run-at : (ks : List ℕ) → Ascending ks → (x p n : ℕ) → StandsAt ks p x → ((i : ℕ) → i < n → In (x + i) ks) → (i : ℕ) → i < n → StandsAt ks (p + i) (x + i)
-run-at ks up x p n s m zero h =
-    let a : p ≡ p + 0 = omega arith in
-    let b : x ≡ x + 0 = omega arith in
-    subst (λ (j : ℕ). StandsAt ks j (x + 0)) a (subst (StandsAt ks p) b s)
-run-at ks up x p n s m (suc i) h =
-    let b = run-at ks up x p n s m i (omega arith) in
-    let q = m (suc i) h in
-    let l : p + i < q .place = up-back ks up (p + i) (q .place) (b .inside) (omega (arith, b .here, q .here)) in
-    let r : p + suc i ≤ q .place = omega arith in
-    record {
-      inside = omega (arith, q .inside);
-      here = omega (arith, up≤ ks up (p + suc i) (q .place) r (q .inside), q .here, b .here, up (p + i) (p + suc i) (omega arith) (omega (arith, q .inside)));
-    }
 
 module _ (t : Tree) (S : Sound t) where
   abbrev nodes : Nodes
   nodes = nodesOf (t .keys) (t .firsts)
 
-  -- the other cells of its eight are there with a cell that isn't the root
-  siblings : (k : ℕ) → In k (t .keys) → (k ≡ 1 → ⊥) → (w : ℕ) → w < 8 → In (8 * (k / 8) + w) (t .keys)
-  siblings k m n w h =
-      ⊎-elim (λ a. a w h) (λ none. absurd (none (k % 8) (omega arith) (in-cast (omega arith) m)))
-      (S .children (k / 8) (in-cast (sym (eighth (S .cells k m) n)) (S .parents k m n)))
-
-  -- those of the cell at a place after the first
-  beside : (p : ℕ) → suc p < length (t .keys) → (w : ℕ) → w < 8 → In (8 * (getD (t .keys) (suc p) 0 / 8) + w) (t .keys)
-  beside p h = siblings (getD (t .keys) (suc p) 0) (in-at (t .keys) (suc p) h) (λ e. omega (arith, S .ascending 0 (suc p) (omega arith) h, S .first .here))
-
   -- from place 1 on cells stand by eights
   pub by-eights : (p : ℕ) → suc p < length (t .keys) → getD (t .keys) (suc p) 0 % 8 ≡ p % 8
   by-eights zero h =
-      let q = beside 0 h 0 (omega arith) in
+      let q = beside t S 1 (omega arith) h 0 (omega arith) in
       ⊎-elim
       (λ low. let z : q .place ≡ 0 = omega arith in absurd (omega (arith, q .here, S .first .here, ap (λ (j : ℕ). getD (t .keys) j 0) z)))
       (λ up. omega (arith, q .here, up≤ (t .keys) (S .ascending) 1 (q .place) up (q .inside)))
@@ -210,12 +160,12 @@ module _ (t : Tree) (S : Sound t) where
   by-eights (suc p) h =
       ⊎-elim
       (λ more.
-      let q = beside p (omega arith) (getD (t .keys) (suc p) 0 % 8 + 1) (omega arith) in
+      let q = beside t S (suc p) (omega arith) (omega arith) (getD (t .keys) (suc p) 0 % 8 + 1) (omega arith) in
       let l : suc p < q .place = up-back (t .keys) (S .ascending) (suc p) (q .place) (omega arith) (omega (arith, q .here)) in
       let r : suc (suc p) ≤ q .place = omega arith in
       omega (arith, by-eights p (omega arith), q .here, S .ascending (suc p) (suc (suc p)) (omega arith) h, up≤ (t .keys) (S .ascending) (suc (suc p)) (q .place) r (q .inside)))
       (λ last.
-      let q = beside (suc p) h 0 (omega arith) in
+      let q = beside t S (suc (suc p)) (omega arith) h 0 (omega arith) in
       ⊎-elim
       (λ low. let l : q .place ≤ suc p = omega arith in
       omega (arith, by-eights p (omega arith), q .here, S .ascending (suc p) (suc (suc p)) (omega arith) h, up≤ (t .keys) (S .ascending) (q .place) (suc p) l (omega arith)))
@@ -259,11 +209,7 @@ module _ (t : Tree) (S : Sound t) where
 
   -- a cell that is there and not the root is a child of a split node
   pub parent-in : (x : ℕ) → In x (t .keys) → (x ≡ 1 → ⊥) → In (x / 8) (t .keys) × In (8 * (x / 8)) (t .keys)
-  parent-in x m n =
-      let up : In (x / 8) (t .keys) = in-cast (sym (eighth (S .cells x m) n)) (S .parents x m n) in (
-        up,
-        ⊎-elim (λ a. in-cast (omega arith) (a 0 (omega arith))) (λ none. absurd (none (x % 8) (omega arith) (in-cast (omega arith) m))) (S .children (x / 8) up),
-      )
+  parent-in x m n = (parent-up t S x m n, in-cast (omega arith) (siblings t S x m n 0 (omega arith)))
 
   pub reached : (l x : ℕ) → Cell l x → In x (t .keys) → Reached l x
   unfolding reach isSplit firstAt
@@ -291,7 +237,7 @@ module _ (t : Tree) (S : Sound t) where
   last-eight h =
       let e : ℕ = length (t .keys) - 1 in
       let x : ℕ = getD (t .keys) e 0 in
-      let up = parent-in x (in-at (t .keys) e (omega arith)) (λ z. omega (arith, S .ascending 0 e (omega arith) (omega arith), S .first .here)) in
+      let up = parent-in x (in-at (t .keys) e (omega arith)) (later t S e (omega arith) (omega arith)) in
       let c = child-at (up .0 .place) (x / 8) (in-stands (up .0)) (up .1) in
       let a = c 0 (omega arith) in
       let b = c 7 (omega arith) in

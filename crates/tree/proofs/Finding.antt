@@ -1,13 +1,12 @@
 -- The lookup that goes down: its way step by step, and that in a sound tree it answers as it should. Assumes nothing.
 use Prim.Native.Nat.{ℕ, zero, suc, _+_, _-_, _*_, _/_, _%_, _^_, _≤_, _<_}
-use mathlib.Core.Path.{_≡_, refl, sym, ap, ap₂, subst, _∙_}
+use mathlib.Core.Path.{_≡_, refl, sym, ap, ap₂, subst, subst₂, _∙_}
 use mathlib.Core.Bool.{Bool, true, false, cond, _&&_}
 use mathlib.Core.Logic.{_⊎_, inl, inr, ⊎-elim}
 use mathlib.Core.List.{List}
 use native.Mathlib.Nat.{div-div-eq-div-mul, div-one, pow-suc, add-zero, add-suc, mul-comm}
 use native.Mathlib.Numerals.{add-one}
 use native.Mathlib.Omega.{arith}
-use lib.Dec.{leb}
 use lib.Ieee.{Float, nan}
 use lib.ListN.{length, getD}
 use borrow.Author.Tests.{le-leb, lt-leb}
@@ -18,10 +17,10 @@ use Rattle.tree.specs.declared.Lookup.{Lookup}
 use Rattle.tree.specs.declared.Lookup.the-variants.{Found, Nothing, Refused}
 use Rattle.tree.specs.Tree.{Tree, StandsAt, In, Sound}
 use Rattle.tree.specs.Down.{Nodes, nodesOf, firstAt, leads, steps, reach, isSplit, over, placeOver, levelOver, NodeOver, NodeSays}
-use Rattle.tree.specs.Climb.{ancestor, NoneDeeper, Deepest, LookupSays, triedIn, distanceAt, downOf, trustingOf}
-use Rattle.tree.proofs.Lists.{order, getD-inside, in-at, in-cast, stands-in}
-use Rattle.tree.proofs.Pass.{said, denied, up≤, eighth}
-use Rattle.tree.proofs.Down.{split-below, reach-down, over-down, over-stay, place-down, place-stay, level-down, level-stay, level-most, over-split, reached, parent-in}
+use Rattle.tree.specs.Climb.{ancestor, NoneDeeper, LookupSays, triedIn, distanceAt, downOf, trustingOf}
+use Rattle.tree.proofs.Lists.{order, decided, getD-inside, in-cast, stands-in}
+use Rattle.tree.proofs.Pass.{said, denied, up-back, siblings, parent-at, beside}
+use Rattle.tree.proofs.Down.{split-below, reach-down, over-next, place-next, level-next, level-most, over-split, reached, parent-in}
 
 -- what the way down reads of a tree
 abbrev pub nodes : Tree → Nodes
@@ -99,9 +98,9 @@ module _ (n : Nodes) where
             record {
               deep = omega arith;
               here = at-reach;
-              node = over-down n l (x / 8 ^ (L - suc l)) s;
-              own = level-down n l (x / 8 ^ (L - suc l)) s;
-              at = place-down n l (x / 8 ^ (L - suc l)) s ∙ sym at-reach;
+              node = over-next n l (x / 8 ^ (L - suc l)) s;
+              own = level-next n l (x / 8 ^ (L - suc l)) s;
+              at = place-next n l (x / 8 ^ (L - suc l)) s ∙ sym at-reach;
               chain = λ r t. split-below n l (x / 8 ^ (L - suc l)) s ∙ ap (λ (m : ℕ). steps n m (x / 8 ^ (L - suc l))) (sym at-reach) ∙ t;
             }
 
@@ -111,9 +110,9 @@ module _ (n : Nodes) where
         let t : isSplit n l (x / 8 ^ (L - l)) ≡ false = test false e in
         record {
           no-deeper = g .deep;
-          is = ap (λ (m : ℕ). over n m x) (sym s) ∙ stop (over n) (over-stay n) l (L - l) x t ∙ g .node;
-          its-level = ap (λ (m : ℕ). levelOver n m x) (sym s) ∙ stop (levelOver n) (level-stay n) l (L - l) x t ∙ g .own;
-          at = ap (λ (m : ℕ). placeOver n m x) (sym s) ∙ stop (placeOver n) (place-stay n) l (L - l) x t ∙ g .at;
+          is = ap (λ (m : ℕ). over n m x) (sym s) ∙ stop (over n) (λ l x e. over-next n l x e) l (L - l) x t ∙ g .node;
+          its-level = ap (λ (m : ℕ). levelOver n m x) (sym s) ∙ stop (levelOver n) (λ l x e. level-next n l x e) l (L - l) x t ∙ g .own;
+          at = ap (λ (m : ℕ). placeOver n m x) (sym s) ∙ stop (placeOver n) (λ l x e. place-next n l x e) l (L - l) x t ∙ g .at;
         }
 
   pub going-end : (L x l place : ℕ) → L ≤ l → Going L x l place → NodeOver n L x l place
@@ -144,40 +143,36 @@ module _ (n : Nodes) (L x l place : ℕ) (v : NodeOver n (suc L) (8 * (x / 8)) l
   first-split r e = ap (isSplit n L) same-parent ∙ e
 
   pub in-row : l ≡ suc L → NodeOver n (suc L) x l (place + x % 8)
-  in-row h = go (isSplit n L (x / 8)) refl
-    where
-      go : (r : Bool) → isSplit n L (x / 8) ≡ r → NodeOver n (suc L) x l (place + x % 8)
-      go true e =
-          let f : isSplit n L (8 * (x / 8) / 8) ≡ true = first-split true e in
-          let z : suc L - l ≡ 0 = omega arith in
-          let row : place ≡ firstAt n (reach n L (x / 8)) + 8 * (x / 8) % 8 =
-          sym (v .at) ∙ place-down n L (8 * (x / 8)) f ∙ reach-down n L (8 * (x / 8)) ∙ ap (λ (m : ℕ). firstAt n (reach n L m) + 8 * (x / 8) % 8) same-parent in
-          record {
-            no-deeper = v .no-deeper;
-            is = over-down n L x e ∙ sym (ap (λ (m : ℕ). x / 8 ^ m) z ∙ div-one x);
-            its-level = level-down n L x e ∙ sym h;
-            at = place-down n L x e ∙ reach-down n L x ∙ omega (arith, row);
-          }
-      go false e =
-          absurd (omega (arith, v .its-level, level-stay n L (8 * (x / 8)) (first-split false e), level-most n L (8 * (x / 8) / 8)))
+  in-row h =
+      decided (isSplit n L (x / 8))
+      (λ e.
+      let z : suc L - l ≡ 0 = omega arith in
+      let row : place ≡ firstAt n (reach n L (x / 8)) + 8 * (x / 8) % 8 =
+      sym (v .at) ∙ place-next n L (8 * (x / 8)) (first-split true e) ∙ reach-down n L (8 * (x / 8))
+      ∙ ap (λ (m : ℕ). firstAt n (reach n L m) + 8 * (x / 8) % 8) same-parent in
+      record {
+        no-deeper = v .no-deeper;
+        is = over-next n L x e ∙ sym (ap (λ (m : ℕ). x / 8 ^ m) z ∙ div-one x);
+        its-level = level-next n L x e ∙ sym h;
+        at = place-next n L x e ∙ reach-down n L x ∙ omega (arith, row);
+      })
+      (λ e. absurd (omega (arith, v .its-level, level-next n L (8 * (x / 8)) (first-split false e), level-most n L (8 * (x / 8) / 8))))
 
   pub in-one : l ≤ L → NodeOver n (suc L) x l place
-  in-one h = go (isSplit n L (x / 8)) refl
-    where
-      go : (r : Bool) → isSplit n L (x / 8) ≡ r → NodeOver n (suc L) x l place
-      go true e = absurd (omega (arith, v .its-level, level-down n L (8 * (x / 8)) (first-split true e)))
-      go false e =
-          let f : isSplit n L (8 * (x / 8) / 8) ≡ false = first-split false e in
-          let s : suc L - l ≡ suc (L - l) = omega arith in
-          let up : 8 * (x / 8) / 8 ^ (suc L - l) ≡ x / 8 ^ (suc L - l) =
-          ap (λ (m : ℕ). 8 * (x / 8) / 8 ^ m) s ∙ div-step (8 * (x / 8)) 8 (L - l) ∙ ap (λ (m : ℕ). m / 8 ^ (L - l)) same-parent
-          ∙ sym (div-step x 8 (L - l)) ∙ ap (λ (m : ℕ). x / 8 ^ m) (sym s) in
-          record {
-            no-deeper = v .no-deeper;
-            is = over-stay n L x e ∙ ap (over n L) (sym same-parent) ∙ sym (over-stay n L (8 * (x / 8)) f) ∙ v .is ∙ up;
-            its-level = level-stay n L x e ∙ ap (levelOver n L) (sym same-parent) ∙ sym (level-stay n L (8 * (x / 8)) f) ∙ v .its-level;
-            at = place-stay n L x e ∙ ap (placeOver n L) (sym same-parent) ∙ sym (place-stay n L (8 * (x / 8)) f) ∙ v .at;
-          }
+  in-one h =
+      decided (isSplit n L (x / 8)) (λ e. absurd (omega (arith, v .its-level, level-next n L (8 * (x / 8)) (first-split true e))))
+      (λ e.
+      let f : isSplit n L (8 * (x / 8) / 8) ≡ false = first-split false e in
+      let s : suc L - l ≡ suc (L - l) = omega arith in
+      let up : 8 * (x / 8) / 8 ^ (suc L - l) ≡ x / 8 ^ (suc L - l) =
+      ap (λ (m : ℕ). 8 * (x / 8) / 8 ^ m) s ∙ div-step (8 * (x / 8)) 8 (L - l) ∙ ap (λ (m : ℕ). m / 8 ^ (L - l)) same-parent
+      ∙ sym (div-step x 8 (L - l)) ∙ ap (λ (m : ℕ). x / 8 ^ m) (sym s) in
+      record {
+        no-deeper = v .no-deeper;
+        is = over-next n L x e ∙ ap (over n L) (sym same-parent) ∙ sym (over-next n L (8 * (x / 8)) f) ∙ v .is ∙ up;
+        its-level = level-next n L x e ∙ ap (levelOver n L) (sym same-parent) ∙ sym (level-next n L (8 * (x / 8)) f) ∙ v .its-level;
+        at = place-next n L x e ∙ ap (placeOver n L) (sym same-parent) ∙ sym (place-next n L (8 * (x / 8)) f) ∙ v .at;
+      })
 
 -- ---- the answer, on any tables
 
@@ -228,20 +223,9 @@ module _ (n : Nodes) (ds : List Float) (k L l place : ℕ) (c : isCell k ≡ tru
 
 -- ---- in a sound tree
 
-ancestor-here : (k : ℕ) → k ≡ ancestor k (level k)
-ancestor-here k = let e : 0 ≡ level k - level k = omega arith in subst (λ (n : ℕ). k ≡ k / 8 ^ n) e (sym (div-one k))
-
-ancestor-up : (k l : ℕ) → suc l ≤ level k → ancestor k (suc l) / 8 ≡ ancestor k l
-ancestor-up k l h =
-    let e : suc (level k - suc l) ≡ level k - l = omega arith in
-    div-div-eq-div-mul k (8 ^ (level k - suc l)) 8 ∙ ap (λ (n : ℕ). k / n) (sym (pow-suc 8 (level k - suc l))) ∙ ap (λ (n : ℕ). k / 8 ^ n) e
-
 -- the ancestor of level l is a cell key of level l
 pub ancestor-cell : (k l : ℕ) → Cell (level k) k → l ≤ level k → Cell l (ancestor k l)
 ancestor-cell k l c h = let e : l + (level k - l) ≡ level k = omega arith in cell-up (level k - l) l k (subst (λ (n : ℕ). Cell n k) (sym e) c)
-
-pub ancestor-level : (k l : ℕ) → Cell (level k) k → l ≤ level k → level (ancestor k l) ≡ l
-ancestor-level k l c h = cell-level l (ancestor k l) (omega (arith, level-le k)) (ancestor-cell k l c h)
 
 module _ (t : Tree) (S : Sound t) where
   -- the node over a cell: which level it has, where it stands, and that no deeper one is there
@@ -257,53 +241,44 @@ module _ (t : Tree) (S : Sound t) where
   over-is zero x c =
       let e : 1 ≡ x = omega (arith, c .low, c .high) in
       record { lev = 0; no-deeper = omega arith; is = omega arith; stands = subst (StandsAt (t .keys) 0) e (S .first); none = λ j h g. absurd (omega arith) }
-  over-is (suc L) x c = go (isSplit (nodes t) L (x / 8)) refl (over-is L (x / 8) up)
+  over-is (suc L) x c = decided (isSplit (nodes t) L (x / 8)) (down (over-is L (x / 8) up)) (stay (over-is L (x / 8) up))
     where
       up : Cell L (x / 8)
       up = record { low = omega (arith, c .low, pow-suc 8 L); high = omega (arith, c .high, pow-suc 8 L) }
 
-      go : (r : Bool) → isSplit (nodes t) L (x / 8) ≡ r → OverIs L (x / 8) → OverIs (suc L) x
-      go true e v =
-          let o : over (nodes t) (suc L) x ≡ x = over-down (nodes t) L x e in
-          let p : placeOver (nodes t) (suc L) x ≡ reach (nodes t) (suc L) x = place-down (nodes t) L x e in
-          let z : suc L - suc L ≡ 0 = omega arith in
+      own : x / 8 ^ (suc L - suc L) ≡ x
+      own = let z : suc L - suc L ≡ 0 = omega arith in ap (λ (m : ℕ). x / 8 ^ m) z ∙ div-one x
+
+      higher : (j : ℕ) → j ≤ L → x / 8 / 8 ^ (L - j) ≡ x / 8 ^ (suc L - j)
+      higher j h = let s : suc (L - j) ≡ suc L - j = omega arith in sym (div-step x 8 (L - j)) ∙ ap (λ (i : ℕ). x / 8 ^ i) s
+
+      down : OverIs L (x / 8) → isSplit (nodes t) L (x / 8) ≡ true → OverIs (suc L) x
+      down v e =
+          let m : In (x / 8) (t .keys) = in-cast (sym (over-split (nodes t) L (x / 8) e)) (stands-in (v .stands)) in
+          let i : In (8 * (x / 8)) (t .keys) = said (isSplit (nodes t) L (x / 8)) _ e (reached t S L (x / 8) up m .split) in
+          let k : In x (t .keys) = in-cast (omega arith) (siblings t S (8 * (x / 8)) i (λ z. omega arith) (x % 8) (omega arith)) in
           record {
             lev = suc L;
             no-deeper = omega arith;
-            is = o ∙ sym (ap (λ (m : ℕ). x / 8 ^ m) z ∙ div-one x);
-            stands = subst (λ (m : ℕ). StandsAt (t .keys) m (over (nodes t) (suc L) x)) (sym p) (subst (StandsAt (t .keys) (reach (nodes t) (suc L) x)) (sym o) (below e v));
+            is = over-next (nodes t) L x e ∙ sym own;
+            stands = subst₂ (StandsAt (t .keys)) (sym (place-next (nodes t) L x e)) (sym (over-next (nodes t) L x e)) (reached t S (suc L) x c k .stands);
             none = λ j h g. absurd (omega arith);
           }
-        where
-          here : isSplit (nodes t) L (x / 8) ≡ true → OverIs L (x / 8) → In (x / 8) (t .keys)
-          here e v = in-cast (sym (over-split (nodes t) L (x / 8) e)) (stands-in (v .stands))
 
-          child : In (x / 8) (t .keys) → In (8 * (x / 8)) (t .keys) → In x (t .keys)
-          child m i =
-              ⊎-elim (λ a. in-cast (omega arith) (a (x % 8) (omega arith))) (λ none. absurd (none 0 (omega arith) (in-cast (omega arith) i))) (S .children (x / 8) m)
-
-          below : isSplit (nodes t) L (x / 8) ≡ true → OverIs L (x / 8) → StandsAt (t .keys) (reach (nodes t) (suc L) x) x
-          below e v =
-              let m : In (x / 8) (t .keys) = here e v in
-              reached t S (suc L) x c (child m (said (isSplit (nodes t) L (x / 8)) _ e (reached t S L (x / 8) up m .split))) .stands
-      go false e v =
-          let o : over (nodes t) (suc L) x ≡ over (nodes t) L (x / 8) = over-stay (nodes t) L x e in
-          let p : placeOver (nodes t) (suc L) x ≡ placeOver (nodes t) L (x / 8) = place-stay (nodes t) L x e in
+      stay : OverIs L (x / 8) → isSplit (nodes t) L (x / 8) ≡ false → OverIs (suc L) x
+      stay v e =
           record {
             lev = v .lev;
             no-deeper = omega (arith, v .no-deeper);
-            is = o ∙ v .is ∙ higher (v .lev) (v .no-deeper);
-            stands = subst (λ (m : ℕ). StandsAt (t .keys) m (over (nodes t) (suc L) x)) (sym p) (subst (StandsAt (t .keys) (placeOver (nodes t) L (x / 8))) (sym o) (v .stands));
+            is = over-next (nodes t) L x e ∙ v .is ∙ higher (v .lev) (v .no-deeper);
+            stands = subst₂ (StandsAt (t .keys)) (sym (place-next (nodes t) L x e)) (sym (over-next (nodes t) L x e)) (v .stands);
             none = λ j h g m. ⊎-elim
                 (λ l. v .none j h (omega arith) (in-cast (higher j (omega arith)) m))
-                (λ l. let z : suc L - j ≡ 0 = omega arith in
-                let q = parent-in t S x (in-cast (sym (ap (λ (i : ℕ). x / 8 ^ i) z ∙ div-one x)) m) (λ i. omega (arith, c .low, pow-suc 8 L, eight-pos L)) in
+                (λ l. let z : suc L ≡ j = omega arith in
+                let q = parent-in t S x (in-cast (sym own ∙ ap (λ (i : ℕ). x / 8 ^ (suc L - i)) z) m) (λ i. omega (arith, c .low, pow-suc 8 L, eight-pos L)) in
                 denied (isSplit (nodes t) L (x / 8)) _ e (reached t S L (x / 8) up (q .0) .split) (q .1))
                 (order j (suc L));
           }
-        where
-          higher : (j : ℕ) → j ≤ L → x / 8 / 8 ^ (L - j) ≡ x / 8 ^ (suc L - j)
-          higher j h = let s : suc (L - j) ≡ suc L - j = omega arith in sym (div-step x 8 (L - j)) ∙ ap (λ (i : ℕ). x / 8 ^ i) s
 
   pub down-says : (asked : ℕ) → isCell asked ≡ true → LookupSays t asked (downOf (nodes t) (t .distances) asked)
   unfolding downOf
@@ -347,11 +322,9 @@ module _ (t : Tree) (S : Sound t) where
 
 -- of a sound tree that is the lookup, refused or not
 pub trusting-lookup : (t : Tree) → Sound t → (asked : ℕ) → LookupSays t asked (trustingOf (nodes t) (t .distances) asked)
-trusting-lookup t S asked = go (isCell asked) refl
-  where
-    go : (b : Bool) → isCell asked ≡ b → LookupSays t asked (trustingOf (nodes t) (t .distances) asked)
-    go true c = subst (LookupSays t asked) (trusting-down (nodes t) (t .distances) asked c) (down-says t S asked c)
-    go false c = subst (LookupSays t asked) (trusting-refuses (nodes t) (t .distances) asked c) (inr (S, c, refl))
+trusting-lookup t S asked =
+    decided (isCell asked) (λ c. subst (LookupSays t asked) (trusting-down (nodes t) (t .distances) asked c) (down-says t S asked c))
+    (λ c. subst (LookupSays t asked) (trusting-refuses (nodes t) (t .distances) asked c) (inr (S, c, refl)))
 
 -- at most 21 keys are tried
 pub tried-most : (t : Tree) (asked : ℕ) (r : Lookup) → LookupSays t asked r → triedIn r ≤ deepest
@@ -365,18 +338,12 @@ module _ (t : Tree) (S : Sound t) (more : 1 < length (t .keys)) where
   -- the cells of level 1 are there
   root-split : (w : ℕ) → w < 8 → In (8 * 1 + w) (t .keys)
   root-split w h =
-      let second : In (getD (t .keys) 1 0) (t .keys) = in-at (t .keys) 1 more in
-      let above : 1 < getD (t .keys) 1 0 = omega (arith, S .ascending 0 1 (omega arith) more, S .first .here) in
-      let q : In (getD (t .keys) 1 0 / 8) (t .keys) =
-      subst (λ (x : ℕ). In x (t .keys)) (eighth (S .cells _ second) (λ e. omega arith)) (S .parents _ second (λ e. omega arith)) in
-      let first : q .place ≡ 0 = ⊎-elim
-      (λ p. absurd (omega (arith, q .here, up≤ (t .keys) (S .ascending) 1 (q .place) p (q .inside))))
-      (λ p. omega arith)
-      (order 0 (q .place)) in
-      let one : getD (t .keys) 1 0 / 8 ≡ 1 = sym (q .here) ∙ ap (λ (x : ℕ). getD (t .keys) x 0) first ∙ S .first .here in
-      ⊎-elim (λ all. all w h)
-      (λ none. absurd (none (getD (t .keys) 1 0 % 8) (omega arith) (record { place = 1; inside = more; here = omega arith })))
-      (S .children 1 (record { place = 0; inside = S .first .inside; here = S .first .here }))
+      let x : ℕ = getD (t .keys) 1 0 in
+      let q : In (x / 8) (t .keys) = parent-at t S 1 (omega arith) more in
+      let above : 1 < x = omega (arith, S .ascending 0 1 (omega arith) more, S .first .here) in
+      let first : q .place ≡ 0 = omega (arith, up-back (t .keys) (S .ascending) (q .place) 1 (q .inside) (omega (arith, q .here))) in
+      let one : x / 8 ≡ 1 = sym (q .here) ∙ ap (λ (x : ℕ). getD (t .keys) x 0) first ∙ S .first .here in
+      in-cast (omega (arith, one)) (beside t S 1 (omega arith) more w h)
 
   pub always-found : (asked : ℕ) → Cell (level asked) asked → 1 ≤ level asked → NoneDeeper t asked 0 → ⊥
   always-found asked c l none =

@@ -16,6 +16,13 @@ use Rattle.tree.specs.Tree.{In, StandsAt, Ascending}
 pub order : (a b : ℕ) → (a < b) ⊎ (b ≤ a)
 order a b = by-cases (decLt a b) (λ h. inl h) (λ h. inr (omega arith))
 
+pub decided : {A : Type 0} (r : Bool) → (r ≡ true → A) → (r ≡ false → A) → A
+decided true f g = f refl
+decided false f g = g refl
+
+pub unless : (r : Bool) → (r ≡ true → ⊥) → r ≡ false
+unless r n = decided r (λ e. absurd (n e)) (λ e. e)
+
 -- what is read inside a list is there, whatever stands for the rest
 pub getD-inside : {A : Type 0} (xs : List A) (i : ℕ) (d e : A) → i < length xs → getD xs i d ≡ getD xs i e
 getD-inside [] i d e h = absurd (not-suc-le-zero h)
@@ -106,14 +113,6 @@ has-true k (x ∷ xs) e = go (has-true k xs) (eqb x k) refl
 pub has-false : (k : ℕ) (ks : List ℕ) → has ks k ≡ false → In k ks → ⊥
 has-false k ks e m = false≢true (sym e ∙ has-in k ks m)
 
--- so membership is decided
-pub in-or-not : (k : ℕ) (ks : List ℕ) → In k ks ⊎ (In k ks → ⊥)
-in-or-not k ks = go (has ks k) refl
-  where
-    go : (b : Bool) → has ks k ≡ b → In k ks ⊎ (In k ks → ⊥)
-    go true e = inl (has-true k ks e)
-    go false e = inr (has-false k ks e)
-
 -- ---- strictly ascending, from b on
 
 abbrev pub Asc : ℕ → List ℕ → Type 0
@@ -160,9 +159,6 @@ ascending-place xs a i j l m e =
       | yes h ↦ absurd (omega (arith, a i j h m))
       | no h ↦ elim (decLt j i) [ yes g ↦ absurd (omega (arith, a j i g l)) | no g ↦ omega arith ]
     ]
-
-pub asc-place : (b : ℕ) (xs : List ℕ) → Asc b xs → (i j : ℕ) → i < length xs → j < length xs → getD xs i 0 ≡ getD xs j 0 → i ≡ j
-asc-place b xs a = ascending-place xs (asc-at b xs a)
 
 pub asc-unique : (b : ℕ) (xs ys : List ℕ) → Asc b xs → Asc b ys → ((x : ℕ) → In x xs → In x ys) → ((x : ℕ) → In x ys → In x xs) → xs ≡ ys
 asc-unique b [] [] a c f g = refl

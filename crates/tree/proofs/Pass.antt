@@ -12,8 +12,8 @@ use lib.ListN.{length, getD}
 use Rattle.morton.specs.Level.{limit, Cell, level, parentOf}
 use Rattle.morton.proofs.Levels.{eight-pos, eight-mono, cell-level, cell-lt}
 use Rattle.morton.proofs.Cells.{child-cell}
-use Rattle.tree.specs.Tree.{treeOf, StandsAt, In, AllChildren, NoChild, FirstChild, AllFinite, Sound, Decides, EightAt}
-use Rattle.tree.proofs.Lists.{order, in-at, ascending-place}
+use Rattle.tree.specs.Tree.{Tree, treeOf, StandsAt, In, Ascending, AllChildren, NoChild, FirstChild, AllFinite, Sound, Decides, EightAt}
+use Rattle.tree.proofs.Lists.{order, in-at, in-cast, ascending-place}
 
 -- ---- answers
 
@@ -40,6 +40,21 @@ module _ (ks : List ℕ) {n : ℕ} (up : Up ks n) where
   pub up-back : (a b : ℕ) → a < n → getD ks a 0 < getD ks b 0 → a < b
   up-back a b l h = ⊎-elim (λ lt. lt) (λ ge. let u = up≤ b a ge l in absurd (omega arith)) (order a b)
 
+-- keys in a row
+pub run-at : (ks : List ℕ) → Ascending ks → (x p n : ℕ) → StandsAt ks p x → ((i : ℕ) → i < n → In (x + i) ks) → (i : ℕ) → i < n → StandsAt ks (p + i) (x + i)
+run-at ks up x p n s m zero h =
+    let z : p + 0 ≡ p = omega arith in
+    record { inside = omega (arith, s .inside); here = ap (λ (j : ℕ). getD ks j 0) z ∙ s .here ∙ omega arith }
+run-at ks up x p n s m (suc i) h =
+    let b = run-at ks up x p n s m i (omega arith) in
+    let q = m (suc i) h in
+    let l : p + i < q .place = up-back ks up (p + i) (q .place) (b .inside) (omega (arith, b .here, q .here)) in
+    let r : p + suc i ≤ q .place = omega arith in
+    record {
+      inside = omega (arith, q .inside);
+      here = omega (arith, up≤ ks up (p + suc i) (q .place) r (q .inside), q .here, b .here, up (p + i) (p + suc i) (omega arith) (omega (arith, q .inside)));
+    }
+
 -- k stands before place n
 pub record Before (k : ℕ) (ks : List ℕ) (n : ℕ) : Type 0 where
   pub place : ℕ
@@ -51,9 +66,6 @@ widen b h = record { place = b .place; inside = omega (arith, b .inside); here =
 
 before-in : {ks : List ℕ} {k n : ℕ} → n ≤ length ks → Before k ks n → In k ks
 before-in h b = record { place = b .place; inside = omega (arith, b .inside); here = b .here }
-
-in-before : {ks : List ℕ} {k : ℕ} → In k ks → Before k ks (length ks)
-in-before b = record { place = b .place; inside = b .inside; here = b .here }
 
 -- ---- keys of a tree
 
@@ -93,6 +105,25 @@ eighth {k} q n = go (level k) refl
     go zero e = absurd (n (omega (arith, subst (λ (x : ℕ). Cell x k) e (q .0) .low, subst (λ (x : ℕ). Cell x k) e (q .0) .high)))
     go (suc l) e = omega (arith, eight-pos l, subst (λ (x : ℕ). Cell x k) e (q .0) .low)
 
+module _ (t : Tree) (S : Sound t) where
+  -- the parent of a key that isn't the first, and all eight of its children
+  pub parent-up : (x : ℕ) → In x (t .keys) → (x ≡ 1 → ⊥) → In (x / 8) (t .keys)
+  parent-up x m n = in-cast (sym (eighth (S .cells x m) n)) (S .parents x m n)
+
+  pub siblings : (x : ℕ) → In x (t .keys) → (x ≡ 1 → ⊥) → AllChildren (x / 8) (t .keys)
+  siblings x m n =
+      ⊎-elim (λ a. a) (λ none. absurd (none (x % 8) (omega arith) (in-cast (omega arith) m))) (S .children (x / 8) (parent-up x m n))
+
+  -- of the key at a later place
+  pub later : (j : ℕ) → 0 < j → j < length (t .keys) → getD (t .keys) j 0 ≡ 1 → ⊥
+  later j p h e = omega (arith, S .ascending 0 j p h, S .first .here)
+
+  pub parent-at : (j : ℕ) → 0 < j → j < length (t .keys) → In (getD (t .keys) j 0 / 8) (t .keys)
+  parent-at j p h = parent-up (getD (t .keys) j 0) (in-at (t .keys) j h) (later j p h)
+
+  pub beside : (j : ℕ) → 0 < j → j < length (t .keys) → AllChildren (getD (t .keys) j 0 / 8) (t .keys)
+  beside j p h = siblings (getD (t .keys) j 0) (in-at (t .keys) j h) (later j p h)
+
 -- ---- the pass
 
 -- What the pass has shown when node i is next, the next child is expected at c and the next leaf at m.
@@ -114,12 +145,6 @@ pub record Walked (ks ls fs : List ℕ) (i c m : ℕ) : Type 0 where
 
 -- A sound tree is never refused.
 module _ {ks ls fs : List ℕ} {d : List Float} {i c m : ℕ} (W : Walked ks ls fs i c m) (S : Sound (treeOf ks d fs ls)) where
-  -- the parent of the key at a later place than the first
-  parent-at : (j : ℕ) → 0 < j → j < length ks → In (getD ks j 0 / 8) ks
-  parent-at j p h =
-      let more : getD ks j 0 ≡ 1 → ⊥ = λ e. omega (arith, S .ascending 0 j p h, S .first .here) in
-      subst (λ (x : ℕ). In x ks) (eighth (S .cells _ (in-at ks j h)) more) (S .parents _ (in-at ks j h) more)
-
   -- the parent of the key at c is not yet passed
   next : c < length ks → (q : In (getD ks c 0 / 8) ks) → i ≤ q .place
   next h q = ⊎-elim
@@ -161,25 +186,17 @@ module _ {ks ls fs : List ℕ} {d : List Float} {i c m : ℕ} (W : Walked ks ls 
       (λ le. le)
       (order (p .place) c) in
       let h : c < length ks = omega (arith, p .inside) in
-      let q = parent-at c (omega (arith, W .some)) h in
+      let q = parent-at (treeOf ks d fs ls) S c (omega (arith, W .some)) h in
       let f = next h q in
       record { inside = h; here = omega (arith, up≤ ks (S .ascending) c (p .place) c≤p (p .inside), p .here, up≤ ks (S .ascending) i (q .place) f (q .inside), q .here) }
-
-  run-of : StandsAt ks c (8 * getD ks i 0) → AllChildren (getD ks i 0) ks → (v : ℕ) → v < 8 → StandsAt ks (c + v) (8 * getD ks i 0 + v)
-  run-of s all zero h = subst (λ (x : ℕ). StandsAt ks x (8 * getD ks i 0 + 0)) (omega arith) (record { inside = s .inside; here = omega (arith, s .here) })
-  run-of s all (suc v) h =
-      let b = run-of s all v (omega arith) in
-      let p = all (suc v) h in
-      let l : c + v < p .place = up-back ks (S .ascending) (c + v) (p .place) (b .inside) (omega (arith, b .here, p .here)) in
-      let r : c + suc v ≤ p .place = omega arith in
-      record { inside = omega (arith, p .inside); here = omega (arith, up≤ ks (S .ascending) (c + suc v) (p .place) r (p .inside), p .here, b .here, S .ascending (c + v) (c + suc v) (omega arith) (omega (arith, p .inside))) }
 
   pub all-eight : i < c → StandsAt ks c (8 * getD ks i 0) → EightAt ks c (8 * getD ks i 0)
   all-eight l s =
       let all : AllChildren (getD ks i 0) ks = ⊎-elim (λ a. a)
       (λ none. absurd (none 0 (omega arith) (record { place = c; inside = s .inside; here = omega (arith, s .here) })))
       (S .children _ (in-at ks i (omega (arith, W .inside)))) in
-      record { room = omega (arith, run-of s all 7 (omega arith) .inside); run = λ v h. run-of s all v h .here }
+      let r = run-at ks (S .ascending) (8 * getD ks i 0) c 8 s all in
+      record { room = omega (arith, r 7 (omega arith) .inside); run = λ v h. r v h .here }
 
   pub not-too-deep : StandsAt ks c (8 * getD ks i 0) → 8 ^ limit ≤ getD ks i 0 → ⊥
   not-too-deep s h = omega (arith, cell-below (S .cells _ (in-at ks c (s .inside))), s .here)
@@ -202,7 +219,7 @@ module _ {ks ls fs : List ℕ} {d : List Float} {i c m : ℕ} (W : Walked ks ls 
 
   pub no-more-keys : c ≤ i → c < length ks → ⊥
   no-more-keys e h =
-      let q = parent-at c (omega (arith, W .some)) h in
+      let q = parent-at (treeOf ks d fs ls) S c (omega (arith, W .some)) h in
       let f = next h q in
       let g : c ≤ q .place = omega arith in
       omega (arith, up≤ ks (S .ascending) c (q .place) g (q .inside), q .here, cell-pos (S .cells _ (in-at ks c h)))
