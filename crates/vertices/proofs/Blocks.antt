@@ -1,32 +1,34 @@
 -- The block of a child from that of its parent, where the walk ends, and what the tables hold, on any table of keys. Assumes nothing.
-use Prim.Native.Nat.{ℕ, zero, suc, _+_, _*_, _-_, _/_, _%_, _^_, _≤_, _<_, min}
+use Prim.Native.Nat.{ℕ, zero, suc, _+_, _*_, _-_, _%_, _^_, _≤_, _<_, min}
 use mathlib.Core.Path.{_≡_, refl, sym, _∙_, ap, ap₂, subst}
 use mathlib.Core.Bool.{Bool, true, false, cond, _&&_, _||_, true≢false}
 use mathlib.Core.List.{List, [], _∷_, _++_}
-use native.Mathlib.Nat.{mod-eq-of-lt, mul-le-mul-right, pow-suc, add-zero, add-suc, suc-add}
+use native.Mathlib.Nat.{mod-eq-of-lt, add-zero, add-suc, suc-add}
 use native.Mathlib.Numerals.{add-one}
 use native.Mathlib.Decide.{decLt, ℕ-discrete}
 use native.Mathlib.Omega.{arith}
 use lib.Bits.{bitAnd, bitXor, and-le-l}
 use lib.Dec.{eqb, leb, ltb}
-use lib.ListN.{length, getD, set, length-append}
+use lib.ListN.{length, getD, set}
 use lib.Seq.{sets, getD-set-same, getD-set-other}
 use borrow.Author.Tests.{ltb-true, lt-ltb, leb-true, le-leb, eqb-true, eqb-false, eq-eqb, ne-eqb}
-use Rattle.morton.specs.Level.{deepest, limit, if₀, Cell}
+use Rattle.morton.specs.Level.{limit, if₀, Cell}
 use Rattle.morton.proofs.Cells.{child-cell}
 use Rattle.morton.proofs.Fields.{bit-le, coord-child}
 use Rattle.morton.proofs.Levels.{and-true, cell-lt, eight-pos, eight-mono}
 use Rattle.morton.proofs.Vertices.{up-pow, down-cell}
 use Rattle.tree.specs.Tree.{Decides}
+use Rattle.tree.proofs.Lists.{decided, unless}
 use Rattle.geometry.specs.Near.{near, inCube}
 use Rattle.vertices.specs.Walk.{splitAt, entry, placeAt, some, all, Spot, inTurn, lowCorner, divided, meets, ending, walked, verticesOf, levelsOf}
-use Rattle.vertices.specs.Block.{marked, Here, Small, BelowMarks, Each16, Near, loweredMark, loweredPlace, loweredAt, LoweredMarks, LoweredAt, Touched, Low, Laid}
-use Rattle.tree.specs.Down.{Nodes, firstAt, steps, reach, isSplit}
-use Rattle.tree.proofs.Down.{steps-in, split-steps, over-split, place-split}
+use Rattle.vertices.specs.Block.{marked, Here, Small, BelowMarks, Each16, Near, loweredMark, loweredPlace, loweredAt, LoweredMarks, LoweredAt, Touched, Low}
+use Rattle.tree.specs.Down.{Nodes, firstAt, steps, isSplit}
+use Rattle.tree.proofs.Down.{over-split}
 use Rattle.morton.specs.Field.{bit, coord, sub}
 use Rattle.morton.proofs.Sides.{sub-key}
 use Rattle.geometry.proofs.Offsets.{Within, and-bit, rest-bit, kept-lt, flip-lt, near-cell, in-cube, cube-in}
-use Rattle.vertices.proofs.Entries.{entry-in, entry-out, entry-lt, place-in, place-most, split-low, split-over, entry-node, node-within, from, fromPlace, place-step, split-step, fine-up, fine-down}
+use Rattle.vertices.proofs.Entries.{entry-in, entry-out, entry-lt, place-most, split-low, split-over, entry-node, node-within, from, fromPlace, from-lt, Below, below, fine-up, fine-down}
+use Rattle.vertices.proofs.Entries.Below.{down, stay}
 use Rattle.vertices.proofs.Marks.{marked-zero, some-marked}
 
 -- ---- some and all
@@ -54,11 +56,7 @@ some-is f (suc n) e = go (some f n) refl (λ t. some-is f n t)
     go false t g = (n, omega arith, sym (ap (λ (r : Bool). r || f n) t) ∙ e)
 
 pub none-is : (f : ℕ → Bool) (n : ℕ) → ((i : ℕ) → i < n → f i ≡ false) → some f n ≡ false
-none-is f n h = go (some f n) refl
-  where
-    go : (r : Bool) → some f n ≡ r → some f n ≡ false
-    go true e = let s = some-is f n e in absurd (true≢false (sym (s .2) ∙ h (s .0) (s .1)))
-    go false e = e
+none-is f n h = unless (some f n) (λ e. let s = some-is f n e in true≢false (sym (s .2) ∙ h (s .0) (s .1)))
 
 pub all-if : (f : ℕ → Bool) (n : ℕ) → ((i : ℕ) → i < n → f i ≡ true) → all f n ≡ true
 unfolding all
@@ -113,46 +111,15 @@ module _ (ks : Nodes) (l c : ℕ) where
   unfolding ending
   ending-none e = ap (λ (r : Bool). cond r (record { vertex = lowCorner l c; level = l } ∷ []) []) e
 
--- ---- how many there are at most
-
-module _ (ks : Nodes) where
-  ending-most : (l c : ℕ) → length (ending ks l c) ≤ 1
-  ending-most l c = go (meets ks l c) refl
-    where
-      go : (r : Bool) → meets ks l c ≡ r → length (ending ks l c) ≤ 1
-      go true e = omega (arith, ap length (ending-one ks l c e))
-      go false e = omega (arith, ap length (ending-none ks l c e))
-
-  turns-most : (g : ℕ → List Spot) (m n : ℕ) → ((q : ℕ) → length (g q) ≤ m) → length (inTurn g n) ≤ n * m
-  unfolding inTurn
-  turns-most g m zero h = omega arith
-  turns-most g m (suc n) h = omega (arith, turns-most g m n h, h n, length-append (inTurn g n) (g n), suc-mul n m)
-    where
-      suc-mul : (n m : ℕ) → suc n * m ≡ n * m + m
-      suc-mul n m = omega arith
-
-  pub walked-most : (f l c : ℕ) → length (walked f ks l c) ≤ 8 ^ f
-  walked-most zero l c = go (divided ks l c) refl
-    where
-      go : (r : Bool) → divided ks l c ≡ r → length (walked 0 ks l c) ≤ 8 ^ 0
-      go true e = omega (arith, ap length (walked-stop ks l c e))
-      go false e = omega (arith, ap length (walked-end ks l c 0 e), ending-most l c)
-  walked-most (suc f) l c = go (divided ks l c) refl (turns-most (λ q. walked f ks (suc l) (8 * c + q)) (8 ^ f) 8 (λ q. walked-most f (suc l) (8 * c + q)))
-    where
-      go : (r : Bool) → divided ks l c ≡ r → length (inTurn (λ q. walked f ks (suc l) (8 * c + q)) 8) ≤ 8 * 8 ^ f → length (walked (suc f) ks l c) ≤ 8 ^ suc f
-      go true e h = omega (arith, ap length (walked-on ks l c f e), pow-suc 8 f)
-      go false e h = omega (arith, ap length (walked-end ks l c (suc f) e), ending-most l c, eight-pos f, pow-suc 8 f)
-
 -- a split entry is the cell that lies that way
 side-entry : (ks : Nodes) (l c o : ℕ) → l ≤ limit → Cell l c → o < 8 → splitAt ks l (entry ks l c o) ≡ true → sub c o ≡ entry ks l c o
 unfolding near Within
-side-entry ks l c o hl cc ho e = go (inCube l c o) refl
-  where
-    go : (r : Bool) → inCube l c o ≡ r → sub c o ≡ entry ks l c o
-    go true i =
-        let s : isSplit ks l (near l c o) ≡ true = sym (split-over ks l (near l c o) (near-cell l c o)) ∙ ap (splitAt ks l) (sym (entry-in ks l c o i)) ∙ e in
-        sub-key l c o (omega arith) cc (omega arith) (in-cube l c o i) ∙ sym (entry-in ks l c o i ∙ over-split ks l (near l c o) s)
-    go false i = absurd (true≢false (sym e ∙ split-low ks l (entry ks l c o) (omega (arith, entry-out ks l c o i, eight-pos l))))
+side-entry ks l c o hl cc ho e =
+    decided (inCube l c o)
+    (λ i.
+    let s : isSplit ks l (near l c o) ≡ true = sym (split-over ks l (near l c o) (near-cell l c o)) ∙ ap (splitAt ks l) (sym (entry-in ks l c o i)) ∙ e in
+    sub-key l c o (omega arith) cc (omega arith) (in-cube l c o i) ∙ sym (entry-in ks l c o i ∙ over-split ks l (near l c o) s))
+    (λ i. absurd (true≢false (sym e ∙ split-low ks l (entry ks l c o) (omega (arith, entry-out ks l c o i, eight-pos l)))))
 
 -- ---- the sides of the cube
 
@@ -198,6 +165,12 @@ module _ (l c low : ℕ) (h : Low l c low) where
           seven (suc (suc zero)) l3 = refl
           seven (suc (suc (suc a))) l3 = absurd (omega arith)
 
+-- where an entry of child q stands, by whether the parent's entry is split
+pub lowered-is : (at : List ℕ) (mask q o : ℕ) {r : Bool} → marked mask (bitAnd o (7 - q)) ≡ r
+    → loweredPlace at mask q o ≡ if₀ r (getD at (bitAnd o (7 - q)) 0 + bitXor q o) (getD at (bitAnd o (7 - q)) 0)
+unfolding loweredPlace
+lowered-is at mask q o e = ap (λ (r : Bool). if₀ r (getD at (bitAnd o (7 - q)) 0 + bitXor q o) (getD at (bitAnd o (7 - q)) 0)) e
+
 -- ---- a cell
 
 module _ (ks : Nodes) (l c : ℕ) (at : List ℕ) (mask low : ℕ) (h : Here ks l c at mask low) where
@@ -217,11 +190,12 @@ module _ (ks : Nodes) (l c : ℕ) (at : List ℕ) (mask low : ℕ) (h : Here ks 
 
   pub here-near : Each16 (ks .firsts) → Near at
   unfolding firstAt
-  here-near k = record { eight-places = h .eight-places; each = λ o ho. go o ho (marked mask o) refl }
-    where
-      go : (o : ℕ) → o < 8 → (r : Bool) → marked mask o ≡ r → getD at o 0 < 2 ^ 16 + 7
-      go o ho true e = omega (arith, here-split o ho e, k (placeAt ks l c o))
-      go o ho false e = omega (arith, here-leaf o ho e, place-most ks k l c o)
+  here-near k =
+      record {
+        eight-places = h .eight-places;
+        each = λ o ho.
+            decided (marked mask o) (λ e. omega (arith, here-split o ho e, k (placeAt ks l c o))) (λ e. omega (arith, here-leaf o ho e, place-most ks k l c o));
+      }
 
   pub here-bound : c < 2 ^ 60
   here-bound = omega (arith, cell-lt l limit c (h .cell) (h .shallow))
@@ -238,40 +212,31 @@ module _ (ks : Nodes) (l c : ℕ) (at : List ℕ) (mask low : ℕ) (h : Here ks 
 
       -- where it stands
       pub place-is : loweredPlace at mask q o ≡ placeAt ks (suc l) (8 * c + q) o
-      unfolding loweredPlace fromPlace
-      place-is = go (marked mask (bitAnd o (7 - q))) refl ∙ sym (place-step ks l c q o hq ho)
+      unfolding fromPlace
+      place-is = go (below ks l c q o hq ho)
         where
-          go : (r : Bool) → marked mask (bitAnd o (7 - q)) ≡ r
-              → if₀ (marked mask (bitAnd o (7 - q))) (getD at (bitAnd o (7 - q)) 0 + bitXor q o) (getD at (bitAnd o (7 - q)) 0)
-              ≡ if₀ (splitAt ks l (from ks l c q o hq ho)) (firstAt ks (fromPlace ks l c q o hq ho) + bitXor q o) (fromPlace ks l c q o hq ho)
-          go true e =
-              ap (λ (r : Bool). if₀ r (getD at (bitAnd o (7 - q)) 0 + bitXor q o) (getD at (bitAnd o (7 - q)) 0)) e
-              ∙ ap (λ (n : ℕ). n + bitXor q o) (here-split (bitAnd o (7 - q)) (kept-lt o q ho) e)
-              ∙ sym (ap (λ (r : Bool). if₀ r (firstAt ks (fromPlace ks l c q o hq ho) + bitXor q o) (fromPlace ks l c q o hq ho)) (sym mark-is ∙ e))
-          go false e =
-              ap (λ (r : Bool). if₀ r (getD at (bitAnd o (7 - q)) 0 + bitXor q o) (getD at (bitAnd o (7 - q)) 0)) e
-              ∙ here-leaf (bitAnd o (7 - q)) (kept-lt o q ho) e
-              ∙ sym (ap (λ (r : Bool). if₀ r (firstAt ks (fromPlace ks l c q o hq ho) + bitXor q o) (fromPlace ks l c q o hq ho)) (sym mark-is ∙ e))
+          go : Below ks l c q o hq ho → loweredPlace at mask q o ≡ placeAt ks (suc l) (8 * c + q) o
+          go (down s e p k) = lowered-is at mask q o (mark-is ∙ s) ∙ ap (λ (n : ℕ). n + bitXor q o) (here-split (bitAnd o (7 - q)) (kept-lt o q ho) (mark-is ∙ s)) ∙ sym p
+          go (stay s e p) = lowered-is at mask q o (mark-is ∙ s) ∙ here-leaf (bitAnd o (7 - q)) (kept-lt o q ho) (mark-is ∙ s) ∙ sym p
 
-    module _ (below : ℕ) (bm : BelowMarks ks c at mask below) where
-      mark-step : (o : ℕ) → o < 8 → loweredMark below q o ≡ splitAt ks (suc l) (entry ks (suc l) (8 * c + q) o)
+    module _ (bits : ℕ) (bm : BelowMarks ks c at mask bits) where
+      mark-step : (o : ℕ) → o < 8 → loweredMark bits q o ≡ splitAt ks (suc l) (entry ks (suc l) (8 * c + q) o)
       unfolding from fromPlace loweredMark
-      mark-step o ho =
-          bm (bitAnd o (7 - q)) (kept-lt o q ho) (bitXor q o) (flip-lt q o hq ho)
-          ∙ go (marked mask (bitAnd o (7 - q))) refl
-          ∙ sym (split-step ks l c q o hq ho)
+      mark-step o ho = bm (bitAnd o (7 - q)) (kept-lt o q ho) (bitXor q o) (flip-lt q o hq ho) ∙ go (below ks l c q o hq ho)
         where
-          go : (r : Bool) → marked mask (bitAnd o (7 - q)) ≡ r
+          go : Below ks l c q o hq ho
               → (marked mask (bitAnd o (7 - q)) && steps ks (getD at (bitAnd o (7 - q)) 0 + bitXor q o) (8 * sub c (bitAnd o (7 - q)) + bitXor q o))
-              ≡ (splitAt ks l (from ks l c q o hq ho) && steps ks (firstAt ks (fromPlace ks l c q o hq ho) + bitXor q o) (8 * from ks l c q o hq ho + bitXor q o))
-          go true e =
-              ap₂ _&&_ (mark-is o ho)
-              (ap₂ (λ (m n : ℕ). steps ks (m + bitXor q o) (8 * n + bitXor q o)) (here-split (bitAnd o (7 - q)) (kept-lt o q ho) e) (here-side (bitAnd o (7 - q)) (kept-lt o q ho) e))
-          go false e =
-              ap (λ (r : Bool). r && steps ks (getD at (bitAnd o (7 - q)) 0 + bitXor q o) (8 * sub c (bitAnd o (7 - q)) + bitXor q o)) e
-              ∙ sym (ap (λ (r : Bool). r && steps ks (firstAt ks (fromPlace ks l c q o hq ho) + bitXor q o) (8 * from ks l c q o hq ho + bitXor q o)) (sym (mark-is o ho) ∙ e))
+              ≡ splitAt ks (suc l) (entry ks (suc l) (8 * c + q) o)
+          go (down s e p k) =
+              let m : marked mask (bitAnd o (7 - q)) ≡ true = mark-is o ho ∙ s in
+              ap₂ _&&_ m
+              (ap₂ (λ (m n : ℕ). steps ks (m + bitXor q o) (8 * n + bitXor q o)) (here-split (bitAnd o (7 - q)) (kept-lt o q ho) m) (here-side (bitAnd o (7 - q)) (kept-lt o q ho) m))
+              ∙ sym k
+          go (stay s e p) =
+              ap (λ (r : Bool). r && steps ks (getD at (bitAnd o (7 - q)) 0 + bitXor q o) (8 * sub c (bitAnd o (7 - q)) + bitXor q o)) (mark-is o ho ∙ s)
+              ∙ sym (split-low ks (suc l) (entry ks (suc l) (8 * c + q) o) (omega (arith, from-lt ks l c q o hq ho)))
 
-      module _ (r : ℕ) (lm : LoweredMarks below q r) where
+      module _ (r : ℕ) (lm : LoweredMarks bits q r) where
         pub child-still : r ≡ 0 → divided ks (suc l) (8 * c + q) ≡ false
         unfolding divided
         child-still z =
@@ -322,11 +287,7 @@ module _ (ks : Nodes) (l c : ℕ) (at : List ℕ) (mask low : ℕ) (h : Here ks 
 
     pub meets-is : (r : Bool) → Decides r (Touched low mask q) → meets ks (suc l) (8 * c + q) ≡ r
     meets-is true d = touched-meets d
-    meets-is false d = go (meets ks (suc l) (8 * c + q)) refl
-      where
-        go : (r : Bool) → meets ks (suc l) (8 * c + q) ≡ r → meets ks (suc l) (8 * c + q) ≡ false
-        go true e = absurd (d (meets-touched e))
-        go false e = e
+    meets-is false d = unless (meets ks (suc l) (8 * c + q)) (λ e. d (meets-touched e))
 
 -- a child where the walk goes on
 pub step-on : (ks : Nodes) (l c : ℕ) (at : List ℕ) (mask low : ℕ) (h : Here ks l c at mask low) → l < limit → (q : ℕ) (hq : q < 8) (below : ℕ)
@@ -366,7 +327,3 @@ sets-append [] us l i = ap (λ (n : ℕ). sets l n us) (sym (add-zero i))
 sets-append (v ∷ vs) us l i =
     sets-append vs us (set l i v) (suc i)
     ∙ ap (λ (n : ℕ). sets (sets (set l i v) (suc i) vs) n us) (suc-add i (length vs) ∙ sym (add-suc i (length vs)))
-
-pub laid-none : (at : ℕ) (v l : List ℕ) → Laid [] at at v l v l
-unfolding verticesOf levelsOf
-laid-none at v l = record { count = omega arith; tables = λ p q. (refl, refl) }

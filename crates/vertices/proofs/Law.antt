@@ -3,28 +3,26 @@ use Prim.Native.Nat.{ℕ, zero, suc, _+_, _*_, _-_, _^_, _≤_, _<_}
 use mathlib.Core.Path.{_≡_, refl, sym, _∙_, ap, subst}
 use mathlib.Core.Bool.{Bool, true, false, true≢false}
 use mathlib.Core.Logic.{inr}
-use mathlib.Core.List.{List, [], _∷_, _++_}
+use mathlib.Core.List.{List, [], _++_}
 use native.Mathlib.Nat.{add-mul, mul-assoc, mul-comm, pow-suc}
 use native.Mathlib.Decide.{decLt}
 use native.Mathlib.Omega.{arith}
 use lib.Dec.{leb, ltb}
-use lib.Ieee.{Float}
-use lib.ListN.{length}
 use borrow.Author.Tests.{ltb-true, lt-ltb, leb-true, le-leb}
 use Rattle.morton.specs.Level.{deepest, limit, Cell, level}
 use Rattle.morton.proofs.Cells.{child-cell}
 use Rattle.morton.proofs.Levels.{and-true, cell-lt, eight-mono}
-use Rattle.tree.specs.Tree.{Tree, In, Sound, treeOf}
+use Rattle.tree.specs.Tree.{Tree, Sound}
 use Rattle.tree.specs.Down.{Nodes}
 use Rattle.tree.proofs.Finding.{nodes}
 use Rattle.tree.proofs.Pass.{said}
 use Rattle.geometry.specs.Listing.{Listed}
 use Rattle.vertices.specs.declared.ListAnswer.{ListAnswer}
 use Rattle.vertices.specs.declared.ListAnswer.the-variants as list
-use Rattle.vertices.specs.Walk.{splitAt, entry, some, Spot, inTurn, lowCorner, divided, meets, ending, walked, spotsOf, verticesOf, levelsOf}
-use Rattle.vertices.specs.Listing.{Lists, Room, Wrote, Short, ListSays, TrustingSays}
+use Rattle.vertices.specs.Walk.{splitAt, entry, Spot, inTurn, lowCorner, divided, meets, ending, walked, spotsOf, verticesOf, levelsOf}
+use Rattle.vertices.specs.Listing.{Lists, Room, ListSays, TrustingSays}
 use Rattle.vertices.proofs.Blocks.{some-if, some-is, all-if, all-is, walked-end, walked-on, ending-one, ending-none, vertices-append, levels-append, vertices-length}
-use Rattle.vertices.proofs.Sound.{SoundKeys, SplitAt, Fresh, Block, block-of, fresh-child}
+use Rattle.vertices.proofs.Sound.{SoundKeys, SplitAt, Fresh, block-of, fresh-child}
 use Rattle.vertices.proofs.Spot.{Meets, corner-next}
 use Rattle.vertices.proofs.Range.{Ranged, joined, ranged-empty, none-here, one-here, all-listed}
 

@@ -1,7 +1,7 @@
 -- On any tables at all the walk goes through at most 64 cells and lists at most 19 vertices for each eight keys after the first. Assumes nothing.
 use Prim.Native.Nat.{ℕ, zero, suc, _+_, _*_, _-_, _/_, _%_, _^_, _≤_, _<_, min}
 use mathlib.Core.Path.{_≡_, refl, sym, _∙_, ap, ap₂, subst}
-use mathlib.Core.Bool.{Bool, true, false}
+use mathlib.Core.Bool.{true}
 use mathlib.Core.Logic.{⊎-elim}
 use mathlib.Core.List.{List}
 use native.Mathlib.Nat.{div-eq-of-lt, mod-eq-of-lt, mul-add-div, mul-add-mod-self-left, mul-le-mul-left, mul-pos, pow-suc}
@@ -17,7 +17,8 @@ use Rattle.morton.proofs.Fields.{coord-key, coord-lt, key-coord, key-ext}
 use Rattle.morton.proofs.Levels.{cell-level, eight-pos}
 use Rattle.morton.proofs.Vertices.{down-cell}
 use Rattle.tree.specs.Down.{Nodes, firstAt, reach, isSplit, over}
-use Rattle.tree.proofs.Down.{split-steps, steps-in, over-split, over-stay, over-le}
+use Rattle.tree.proofs.Down.{split-steps, steps-in, over-split, over-next, over-le}
+use Rattle.tree.proofs.Lists.{decided}
 use Rattle.geometry.specs.Corner.{Corner, StrictlyInside}
 use Rattle.geometry.specs.Near.{near, inCube}
 use Rattle.geometry.proofs.Place.{corner-grid, inner-level}
@@ -29,10 +30,6 @@ use Rattle.vertices.proofs.Entries.{entry-in, entry-out, split-deep, sp
 use Rattle.vertices.proofs.Blocks.{some-is, walked-end, walked-on, walked-stop, ending-one, ending-none}
 use Rattle.vertices.proofs.Spot.{Meets, corner-next}
 use Rattle.vertices.proofs.Law.{meets-is, corner-le, corner-last}
-
-decided : {A : Type 0} (r : Bool) → (r ≡ true → A) → (r ≡ false → A) → A
-decided true f g = f refl
-decided false f g = g refl
 
 -- ---- sums of what each step takes from b
 
@@ -135,7 +132,7 @@ module _ (ks : Nodes) where
   climbs (suc l) k w v h c o i x =
       let up : Cell l (k / 8) = record { low = omega (arith, c .low, pow-suc 8 l); high = omega (arith, c .high, pow-suc 8 l) } in
       let s : isSplit ks l (k / 8) ≡ true =
-      decided (isSplit ks l (k / 8)) (λ e. e) (λ e. absurd (omega (arith, over-stay ks l k e, over-le ks l (k / 8), up .high, pow-suc 8 l, eight-pos l))) in
+      decided (isSplit ks l (k / 8)) (λ e. e) (λ e. absurd (omega (arith, over-next ks l k e, over-le ks l (k / 8), up .high, pow-suc 8 l, eight-pos l))) in
       ⊎-elim (λ u. climbs l (k / 8) (u .0) v (omega arith) up (omega (arith, up .low, over-split ks l (k / 8) s)) i (u .1))
       (λ m. subst (Point 19 middle) (m .here) (split-point 19 middle l (k / 8) (m .place) (omega arith) up s (omega (arith, m .inside, length-middles l (k / 8)))))
       (corner-up l k w v (omega arith) i x)
@@ -221,3 +218,8 @@ module _ (ks : Nodes) where
   pub vertices-linear : length (spotsOf ks) ≤ mostOf (length (ks .keys))
   unfolding spotsOf mostOf
   vertices-linear = omega (arith, all .spots, above-most 19 middle (19 * blocks) (lowCorner 0 1))
+
+  -- fewer than a walk over all of them has room for
+  pub vertices-few : length (ks .keys) ≤ 2 ^ 60 → length (spotsOf ks) ≤ 2 ^ 62
+  unfolding mostOf
+  vertices-few h = omega (arith, vertices-linear)

@@ -8,12 +8,11 @@ use native.Mathlib.Decide.{decLt, ℕ-discrete}
 use native.Mathlib.Numerals.{add-one}
 use native.Mathlib.Omega.{arith}
 use lib.Bits.{bitAnd, bitXor, and-le-l}
-use lib.Dec.{eqb, ltb}
-use lib.ListN.{length, getD}
+use lib.Dec.{eqb}
+use lib.ListN.{getD}
 use lib.Pow.{pow-add, pow-lt, pow-pos, pow-mono, high, shr-shr, shl-exact}
-use borrow.Author.Tests.{ltb-true, lt-ltb, le-leb, lt-leb, eqb-true, eq-eqb, ne-eqb}
+use borrow.Author.Tests.{eq-eqb, ne-eqb}
 use Rattle.morton.specs.Field.{bit, sub}
-use Rattle.morton.specs.Level.{if₀}
 use Rattle.morton.proofs.Fields.{bit-le, div-step, mul-step}
 use Rattle.morton.proofs.Levels.{and-true}
 use Rattle.tree.specs.Tree.{Decides}

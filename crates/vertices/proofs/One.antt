@@ -11,7 +11,6 @@ use Rattle.tree.proofs.Finding.{nodes}
 use Rattle.geometry.proofs.Listing.{listed-unique}
 use Rattle.vertices.specs.declared.ListAnswer.{ListAnswer}
 use Rattle.vertices.specs.declared.ListAnswer.the-variants as list
-use Rattle.vertices.specs.Walk.{spotsOf}
 use Rattle.vertices.specs.Listing.{Lists, written, Room, Wrote, Short, ListSays, TrustingSays}
 use Rattle.vertices.specs.Cells.{Cells, cellsOf, CellsSays}
 use Rattle.vertices.proofs.Law.{trusting-list}

@@ -1,18 +1,18 @@
 -- Places of nodes and of entries, on any table of keys. Assumes nothing.
-use Prim.Native.Nat.{ℕ, zero, suc, _+_, _*_, _-_, _/_, _%_, _^_, _≤_, _<_}
-use mathlib.Core.Path.{_≡_, refl, sym, _∙_, ap, ap₂, subst}
-use mathlib.Core.Bool.{Bool, true, false, cond}
+use Prim.Native.Nat.{ℕ, zero, suc, _+_, _*_, _-_, _/_, _^_, _≤_, _<_}
+use mathlib.Core.Path.{_≡_, refl, sym, _∙_, ap, ap₂}
+use mathlib.Core.Bool.{Bool, true, false}
 use mathlib.Core.List.{List, [], _∷_, _++_}
 use native.Mathlib.Nat.{div-lt-iff-lt-mul}
 use native.Mathlib.Numerals.{add-one}
 use native.Mathlib.Decide.{decLe, decLt}
 use native.Mathlib.Omega.{arith}
-use lib.Bits.{bitAnd, bitOr, bitXor, or-add-and, and-le-l, and-comm}
+use lib.Bits.{bitOr, or-add-and, and-le-l, and-comm}
 use borrow.Author.Tests.{ltb-true, ltb-false}
 use lib.Dec.{ltb}
 use lib.ListN.{length, getD, set, length-append}
 use lib.Seq.{sets}
-use Rattle.morton.specs.Level.{deepest, limit, if₀, Cell}
+use Rattle.morton.specs.Level.{deepest, limit, if₀}
 use Rattle.morton.proofs.Levels.{eight-pos}
 use Rattle.morton.proofs.Vertices.{up-pow}
 use Rattle.tree.specs.Tree.{Decides}
@@ -22,26 +22,11 @@ use Rattle.vertices.specs.Cells.{eight}
 use Rattle.vertices.specs.Block.{marked, loweredPlace, loweredAt}
 use Rattle.vertices.proofs.Blocks.{sets-append}
 
--- ---- the places of a child's entries
-
-module _ (at : List ℕ) (mask q o : ℕ) where
-  pub place-yes : marked mask (bitAnd o (7 - q)) ≡ true → loweredPlace at mask q o ≡ getD at (bitAnd o (7 - q)) 0 + bitXor q o
-  unfolding loweredPlace
-  place-yes e = ap (λ (r : Bool). if₀ r (getD at (bitAnd o (7 - q)) 0 + bitXor q o) (getD at (bitAnd o (7 - q)) 0)) e
-
-  pub place-no : marked mask (bitAnd o (7 - q)) ≡ false → loweredPlace at mask q o ≡ getD at (bitAnd o (7 - q)) 0
-  unfolding loweredPlace
-  place-no e = ap (λ (r : Bool). if₀ r (getD at (bitAnd o (7 - q)) 0 + bitXor q o) (getD at (bitAnd o (7 - q)) 0)) e
-
--- of the split ones, where their first child stands
-module _ (fs at : List ℕ) (mask child q o : ℕ) where
-  pub at-yes : (p f : ℕ) → p ≡ loweredPlace at mask q o → f ≡ getD fs p 0 → marked child o ≡ true → f ≡ loweredAt fs at mask child q o
-  unfolding loweredAt
-  at-yes p f e g m = g ∙ ap (λ (n : ℕ). getD fs n 0) e ∙ sym (ap (λ (r : Bool). if₀ r (getD fs (loweredPlace at mask q o) 0) (loweredPlace at mask q o)) m)
-
-  pub at-no : (p : ℕ) → p ≡ loweredPlace at mask q o → marked child o ≡ false → p ≡ loweredAt fs at mask child q o
-  unfolding loweredAt
-  at-no p e m = e ∙ sym (ap (λ (r : Bool). if₀ r (getD fs (loweredPlace at mask q o) 0) (loweredPlace at mask q o)) m)
+-- ---- the places of a child's entries: of the split ones, where their first child stands
+pub at-is : (fs at : List ℕ) (mask child q o p : ℕ) {r : Bool} → p ≡ loweredPlace at mask q o → marked child o ≡ r
+    → if₀ r (getD fs p 0) p ≡ loweredAt fs at mask child q o
+unfolding loweredAt
+at-is fs at mask child q o p e m = sym (ap₂ (λ (r : Bool) (n : ℕ). if₀ r (getD fs n 0) n) m (sym e))
 
 -- ---- no first child at some places
 

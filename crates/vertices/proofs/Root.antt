@@ -1,24 +1,23 @@
 -- The root's block, and the tables of the whole list, on any table of keys. Assumes nothing.
-use Prim.Native.Nat.{ℕ, zero, suc, _+_, _-_, _*_, _^_, _≤_, _<_}
+use Prim.Native.Nat.{ℕ, zero, suc, _+_, _-_, _^_, _≤_, _<_}
 use mathlib.Core.Path.{_≡_, refl, sym, _∙_, ap, subst}
-use mathlib.Core.Bool.{Bool, true, false, _&&_, true≢false}
+use mathlib.Core.Bool.{Bool, true, false}
 use mathlib.Core.List.{List, [], _∷_, _++_, append-nil}
 use native.Mathlib.Nat.{zero-add, zero-div}
 use native.Mathlib.Omega.{arith}
 use lib.Dec.{eqb, ltb}
 use lib.ListN.{length, getD, take, drop, length-drop, drop-of-length-le}
 use lib.Seq.{sets, sets-eq, drop-drop, take-all}
-use borrow.Author.Tests.{ltb-true, leb-true}
+use borrow.Author.Tests.{ltb-true}
 use borrow.Rule.Slice.PartMut.{midOf, putMid}
-use Rattle.morton.specs.Field.{bit, coord, third, weave}
-use Rattle.morton.specs.Level.{limit, if₀, Cell}
-use Rattle.morton.proofs.Levels.{and-true, eight-pos}
+use Rattle.morton.specs.Field.{coord, third, weave}
+use Rattle.morton.specs.Level.{limit, if₀}
+use Rattle.morton.proofs.Levels.{and-true}
 use Rattle.tree.specs.Down.{Nodes, firstAt, leads, steps, reach, isSplit, over, placeOver}
-use Rattle.vertices.specs.declared.ListAnswer.{ListAnswer}
 use Rattle.vertices.specs.declared.ListAnswer.the-variants as list
 use Rattle.geometry.specs.Near.{near}
-use Rattle.vertices.specs.Walk.{splitAt, entry, placeAt, Spot, divided, meets, ending, walked, spotsOf, verticesOf, levelsOf}
-use Rattle.vertices.specs.Listing.{Lists, listsOf, written, Room, TrustingSays}
+use Rattle.vertices.specs.Walk.{splitAt, entry, placeAt, Spot, divided, meets, walked, spotsOf, verticesOf, levelsOf}
+use Rattle.vertices.specs.Listing.{listsOf, written, Room, TrustingSays}
 use Rattle.vertices.specs.Cells.{Cells}
 use Rattle.vertices.specs.Block.{marked, Here, Laid, Stored}
 use Rattle.vertices.proofs.Storing.{stored-none}

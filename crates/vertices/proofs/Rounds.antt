@@ -1,14 +1,12 @@
 -- The places that are handed out for a vertex of a sound tree are those of its dual cell's nodes. Assumes nothing.
-use Prim.Native.Nat.{ℕ, zero, suc, _+_, _*_, _-_, _/_, _%_, _^_, _≤_, _<_}
+use Prim.Native.Nat.{ℕ, zero, suc, _+_, _*_, _-_, _/_, _^_, _≤_, _<_}
 use mathlib.Core.Path.{_≡_, refl, sym, _∙_, ap, ap₂, subst}
 use mathlib.Core.Bool.{Bool, true, false, cond, true≢false}
 use mathlib.Core.List.{List, [], _∷_, _++_}
-use native.Mathlib.Decide.{decLt}
-use native.Mathlib.Numerals.{add-one}
 use native.Mathlib.Omega.{arith}
 use lib.Dec.{leb}
-use lib.Ieee.{Float, nan}
-use lib.ListN.{length, getD, take, drop, length-append, List·getD-append}
+use lib.Ieee.{nan}
+use lib.ListN.{length, getD, take, drop, List·getD-append}
 use lib.Seq.{getD-append-add}
 use Rattle.morton.specs.Field.{bit, coord}
 use Rattle.morton.specs.Level.{deepest, limit, Cell, level}
@@ -17,9 +15,9 @@ use Rattle.morton.proofs.Cells.{child-cell}
 use Rattle.morton.specs.Field.{sub}
 use Rattle.morton.proofs.Fields.{bit-le, cell-up, coord-lt}
 use Rattle.morton.proofs.Sides.{sub-key}
-use Rattle.morton.proofs.Levels.{cell-level, eight-pos, eight-mono}
-use Rattle.tree.specs.Tree.{Tree, StandsAt, In, NoChild, Sound, treeOf}
-use Rattle.tree.specs.Climb.{ancestor, Deepest}
+use Rattle.morton.proofs.Levels.{cell-level, eight-mono}
+use Rattle.tree.specs.Tree.{Tree, StandsAt, In, NoChild, Sound}
+use Rattle.tree.specs.Climb.{Deepest}
 use Rattle.tree.specs.Down.{placeOver}
 use Rattle.tree.proofs.Pass.{denied}
 use Rattle.tree.proofs.Finding.{nodes}

@@ -2,26 +2,25 @@
 use Prim.Native.Nat.{ℕ, zero, suc, _+_, _*_, _-_, _/_, _%_, _^_, _≤_, _<_}
 use mathlib.Core.Path.{_≡_, refl, sym, _∙_, ap, subst}
 use mathlib.Core.Bool.{Bool, true, false}
-use mathlib.Core.Logic.{_⊎_, inl, inr, ⊎-elim}
+use mathlib.Core.Logic.{_⊎_, inr, ⊎-elim}
 use mathlib.Core.List.{List}
-use native.Mathlib.Nat.{div-le-self, pow-suc}
+use native.Mathlib.Nat.{div-le-self}
 use native.Mathlib.Decide.{decLt}
 use native.Mathlib.Omega.{arith}
 use lib.Bits.{bitAnd, and-mask}
 use lib.Ieee.{Float}
-use Rattle.morton.specs.Level.{if₀, Cell, level, parentOf}
+use Rattle.morton.specs.Level.{Cell}
 use Rattle.morton.proofs.Levels.{eight-pos}
-use Rattle.morton.proofs.Fields.{cell-up, div-step}
-use Rattle.tree.specs.Tree.{In, StandsAt, Ascending, AllChildren, NoChild, Sound, treeOf, Decides}
+use Rattle.morton.proofs.Fields.{div-step}
+use Rattle.tree.specs.Tree.{In, StandsAt, NoChild, Sound, treeOf, Decides}
 use Rattle.tree.specs.Down.{Nodes, isSplit, over, placeOver}
-use Rattle.tree.proofs.Down.{over-split, reached}
+use Rattle.tree.proofs.Down.{reached}
 use Rattle.tree.proofs.Finding as finding
 use Rattle.tree.proofs.Lists.{in-cast, stands-in}
-use Rattle.tree.proofs.Pass.{said, denied}
 use Rattle.geometry.specs.Near.{near}
 use Rattle.vertices.specs.Walk.{splitAt, entry, divided}
 use Rattle.geometry.proofs.Offsets.{Within, within-or-not, near-cell, cube-in, cube-out}
-use Rattle.vertices.proofs.Entries.{split-low, split-at, split-over, entry-in, entry-out, from, fine-down}
+use Rattle.vertices.proofs.Entries.{split-low, split-at, entry-in, entry-out, from, fine-down}
 use Rattle.vertices.proofs.Blocks.{some-is}
 
 -- the keys of some sound tree
@@ -70,13 +69,6 @@ module _ (ks : Nodes) where
       go (suc j) e = absurd (omega (arith, above-lt l x j c, sym (v .is) ∙ ap (λ (n : ℕ). x / 8 ^ n) e))
 
   module _ (t : SoundKeys ks) where
-    -- a key with a first child is there, and has all eight
-    pub split-children : (p : ℕ) → In (8 * p) (ks .keys) → AllChildren p (ks .keys)
-    split-children p m =
-        let pos : 1 ≤ 8 * p = omega (arith, t .sound .cells (8 * p) m .0 .low, eight-pos (level (8 * p))) in
-        let up : In (parentOf (8 * p)) (ks .keys) = t .sound .parents (8 * p) m (λ e. omega arith) in
-        ⊎-elim (λ a. a) (λ n. absurd (n 0 (omega arith) (in-cast (omega arith) m))) (t .sound .children p (in-cast (omega arith) up))
-
     -- the node over a cell has no children, unless it is the cell itself and split
     pub over-childless : (l x p : ℕ) → Cell l x → Over ks l x p → (SplitAt ks l p → ⊥) → NoChild p (ks .keys)
     over-childless l x p c v n = go (v .up) refl
@@ -107,35 +99,22 @@ module _ (ks : Nodes) where
         go h false d = λ s. d (s .split)
 
     over-is : (l x : ℕ) → Cell l x → Over ks l x (over ks l x)
-    unfolding over
-    over-is zero x c =
-        let e : x ≡ 1 = omega (arith, c .low, c .high) in
-        record { up = 0; low = omega arith; is = omega arith; here = in-cast e (stands-in (t .sound .first)); leaf = λ z. absurd (omega arith) }
-    over-is (suc l) x c = go (isSplit ks l (x / 8)) refl (over-is l (x / 8) up)
-      where
-        up : Cell l (x / 8)
-        up = record { low = omega (arith, c .low, pow-suc 8 l); high = omega (arith, c .high, pow-suc 8 l) }
-
-        go : (r : Bool) → isSplit ks l (x / 8) ≡ r → Over ks l (x / 8) (over ks l (x / 8)) → Over ks (suc l) x (if₀ r x (over ks l (x / 8)))
-        go true e v =
-            let here : In (x / 8) (ks .keys) = in-cast (sym (over-split ks l (x / 8) e)) (v .here) in
-            let split : In (8 * (x / 8)) (ks .keys) = said (isSplit ks l (x / 8)) _ e (split-decides l (x / 8) up here) in
-            record {
-              up = 0;
-              low = omega arith;
-              is = omega arith;
-              here = in-cast (omega arith) (split-children (x / 8) split (x % 8) (omega arith));
-              leaf = λ z. absurd (omega arith);
-            }
-        go false e v =
-            record {
-              up = suc (v .up);
-              low = omega (arith, v .low);
-              is = div-step x 8 (v .up) ∙ v .is;
-              here = v .here;
-              leaf = λ z. over-childless l (x / 8) (over ks l (x / 8)) up v
-                  (denied (splitAt ks l (over ks l (x / 8))) _ (split-over ks l (x / 8) up ∙ e) (at-decides l (x / 8) (over ks l (x / 8)) up v));
-            }
+    over-is l x c =
+        let v = finding.over-is (treeOf (ks .keys) (t .distances) (ks .firsts) (t .leaves)) (t .sound) l x c in
+        record {
+          up = l - v .lev;
+          low = omega arith;
+          is = sym (v .is);
+          here = stands-in (v .stands);
+          leaf = λ h. ⊎-elim
+              (λ a.
+              let y : ℕ = x / 8 ^ (l - v .lev - 1) in
+              let up : y / 8 ≡ over ks l x = finding.next-up ks l x (v .lev) (omega arith) ∙ sym (v .is) in
+              let d : l - suc (v .lev) ≡ l - v .lev - 1 = omega arith in
+              absurd (v .none (suc (v .lev)) (omega arith) (omega arith) (in-cast (ap (λ (n : ℕ). x / 8 ^ n) d ∙ omega arith) (a (y % 8) (omega arith)))))
+              (λ n. n)
+              (t .sound .children (over ks l x) (stands-in (v .stands)));
+        }
 
     -- and it stands where the way down leads
     pub place-stands : (l x : ℕ) → Cell l x → StandsAt (ks .keys) (placeOver ks l x) (over ks l x)

@@ -1,25 +1,25 @@
 -- What is wanted of the walk, and what the tables of cells hold, on any table of keys. Assumes nothing.
 use Prim.Native.Nat.{ℕ, zero, suc, _+_, _*_, _-_, _/_, _^_, _≤_, _<_, min}
-use mathlib.Core.Path.{_≡_, refl, sym, _∙_, ap, ap₂, subst}
+use mathlib.Core.Path.{_≡_, refl, sym, _∙_, ap, subst}
 use mathlib.Core.Bool.{Bool, true, false, cond}
-use mathlib.Core.Logic.{_⊎_, inl, inr, ⊎-elim}
+use mathlib.Core.Logic.{inr, ⊎-elim}
 use mathlib.Core.List.{List, [], _∷_, _++_, append-nil, append-assoc}
 use native.Mathlib.Nat.{mul-div-cancel, mul-le-mul-right, zero-add}
 use native.Mathlib.Numerals.{add-one}
 use native.Mathlib.Decide.{decLt}
 use native.Mathlib.Omega.{arith}
 use lib.Dec.{leb}
-use lib.ListN.{length, getD, set, take, length-append}
+use lib.ListN.{length, set, take, length-append}
 use lib.Seq.{sets, sets-eq, take-all}
 use borrow.Author.Tests.{le-leb, lt-leb}
-use Rattle.morton.specs.Level.{deepest, limit, Cell}
+use Rattle.morton.specs.Level.{deepest, limit}
 use Rattle.morton.proofs.Levels.{eight-pos}
 use Rattle.tree.specs.Down.{Nodes}
 use Rattle.vertices.specs.Walk.{placeAt, Spot, inTurn, lowCorner, divided, meets, ending, walked, spotsOf, verticesOf, levelsOf}
 use Rattle.vertices.specs.Cells.{since, wanted, eight, roundOf, placesOf, Cells, cellsOf, roomOf, CellsSays}
 use Rattle.vertices.specs.Listing.{written}
 use Rattle.vertices.specs.Block.{loweredPlace, Laid, Stored, Took, TakeSays, Skipped}
-use Rattle.vertices.proofs.Blocks.{walked-most, walked-end, walked-on, walked-stop, ending-one, ending-none, vertices-append, levels-append, vertices-length, levels-length, sets-append}
+use Rattle.vertices.proofs.Blocks.{walked-end, walked-on, walked-stop, ending-one, ending-none, vertices-append, levels-append, vertices-length, levels-length, sets-append}
 use Rattle.vertices.proofs.Law.{corner-add, corner-last}
 use Rattle.vertices.proofs.Spot.{corner-next}
 
@@ -381,9 +381,8 @@ module _ (ks : Nodes) where
       all [] = refl
       all (s ∷ ss) = ap (λ (r : Bool). cond r (s ∷ since 0 ss) (since 0 ss)) (le-leb 0 (s .vertex) (omega arith)) ∙ ap (λ (xs : List Spot). s ∷ xs) (all ss)
 
-  pub all-laid : (room r : ℕ) (t0 t1 : Cells) → 8 ^ limit ≤ room → Stored ks 0 room (spotsOf ks) 0 r t0 t1
+  pub all-laid : (room r : ℕ) (t0 t1 : Cells) → length (spotsOf ks) ≤ room → Stored ks 0 room (spotsOf ks) 0 r t0 t1
       → Laid (spotsOf ks) 0 r (t0 .vertices) (t0 .levels) (t1 .vertices) (t1 .levels)
-  unfolding spotsOf
   all-laid room r t0 t1 h a =
       record {
         count = a .count ∙ ap (λ (ss : List Spot). 0 + length ss) every;
@@ -393,5 +392,5 @@ module _ (ks : Nodes) where
         );
       }
     where
-      every : wanted 0 (room - 0) (walked limit ks 0 1) ≡ walked limit ks 0 1
-      every = all-wanted (walked limit ks 0 1) (room - 0) (omega (arith, walked-most ks limit 0 1))
+      every : wanted 0 (room - 0) (spotsOf ks) ≡ spotsOf ks
+      every = all-wanted (spotsOf ks) (room - 0) (omega arith)

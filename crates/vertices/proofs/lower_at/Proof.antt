@@ -7,7 +7,7 @@ use denote.Ref.{now}
 use lib.ListN.{length, getD, length-set}
 use Rattle.vertices.specs.Block.{loweredAt}
 use Rattle.vertices.proofs.Blocks.{filled-more}
-use Rattle.vertices.proofs.Places.{at-yes, at-no}
+use Rattle.vertices.proofs.Places.{at-is}
 use Rattle.vertices.proofs.lower_at.Statement.{statement}
 use Rattle.vertices.proofs.lower_at.Tie as tie
 
@@ -48,7 +48,7 @@ loop-less : tie.Need-loop-less Inv-loop μ-loop
 loop-less c = search needs
 
 loop-again : tie.Need-loop-again Inv-loop μ-loop
-loop-again c = (omega arith, simp length-set (c .before .before .before .before .before .loop .inv .1), filled-more (c .before .before .before .before .before .loop .out) (c .before .before .before .before .before .loop .o) _ (loweredAt (now (c .before .before .before .before .before .before .before .before .args .firsts)) (now (c .before .before .before .before .before .before .before .before .args .at)) (c .before .before .before .before .before .before .before .before .args .mask) (c .before .before .before .before .before .before .before .before .args .child) (c .before .before .before .before .before .before .before .before .args .q)) (omega arith) (c .before .before .before .before .before .loop .inv .2) (at-yes _ _ _ _ _ _ _ _ (c .before .before .before .lower-place .ensures) (c .first-at .ensures) (sym (c .before .before .marked .ensures) ∙ c .before .if1 .taken)))
+loop-again c = (omega arith, simp length-set (c .before .before .before .before .before .loop .inv .1), filled-more (c .before .before .before .before .before .loop .out) (c .before .before .before .before .before .loop .o) _ (loweredAt (now (c .before .before .before .before .before .before .before .before .args .firsts)) (now (c .before .before .before .before .before .before .before .before .args .at)) (c .before .before .before .before .before .before .before .before .args .mask) (c .before .before .before .before .before .before .before .before .args .child) (c .before .before .before .before .before .before .before .before .args .q)) (omega arith) (c .before .before .before .before .before .loop .inv .2) (c .first-at .ensures ∙ at-is _ _ _ _ _ (c .before .before .before .before .before .loop .o) _ (c .before .before .before .lower-place .ensures) (sym (c .before .before .marked .ensures) ∙ c .before .if1 .taken)))
 
 mul-out-2 : tie.Need-mul-out-2 Inv-loop μ-loop
 mul-out-2 c = search needs
@@ -63,7 +63,7 @@ loop-less-2 : tie.Need-loop-less-2 Inv-loop μ-loop
 loop-less-2 c = search needs
 
 loop-again-2 : tie.Need-loop-again-2 Inv-loop μ-loop
-loop-again-2 c = (omega arith, simp length-set (c .before .before .before .before .loop .inv .1), filled-more (c .before .before .before .before .loop .out) (c .before .before .before .before .loop .o) _ (loweredAt (now (c .before .before .before .before .before .before .before .args .firsts)) (now (c .before .before .before .before .before .before .before .args .at)) (c .before .before .before .before .before .before .before .args .mask) (c .before .before .before .before .before .before .before .args .child) (c .before .before .before .before .before .before .before .args .q)) (omega arith) (c .before .before .before .before .loop .inv .2) (at-no _ _ _ _ _ _ _ (c .before .before .lower-place .ensures) (sym (c .before .marked .ensures) ∙ c .if1 .left)))
+loop-again-2 c = (omega arith, simp length-set (c .before .before .before .before .loop .inv .1), filled-more (c .before .before .before .before .loop .out) (c .before .before .before .before .loop .o) _ (loweredAt (now (c .before .before .before .before .before .before .before .args .firsts)) (now (c .before .before .before .before .before .before .before .args .at)) (c .before .before .before .before .before .before .before .args .mask) (c .before .before .before .before .before .before .before .args .child) (c .before .before .before .before .before .before .before .args .q)) (omega arith) (c .before .before .before .before .loop .inv .2) (at-is _ _ _ _ _ (c .before .before .before .before .loop .o) _ (c .before .before .lower-place .ensures) (sym (c .before .marked .ensures) ∙ c .if1 .left)))
 
 returns : tie.Need-returns Inv-loop μ-loop
 returns c = (c .before .loop .inv .1, λ i h. c .before .loop .inv .2 i (omega arith))

@@ -1,8 +1,5 @@
 -- `seen` meets its contract, by the rule of its table. Assumes nothing.
-use mathlib.Core.Path.{sym, ap, subst}
 use borrow.Author.Needs.{needs}
-use lib.Bits.{bitAnd}
-use Rattle.vertices.specs.Block.{SeenSays}
 use Rattle.vertices.proofs.Glance.{seen-says}
 use Rattle.vertices.proofs.seen.Statement.{statement}
 use Rattle.vertices.proofs.seen.Tie as tie

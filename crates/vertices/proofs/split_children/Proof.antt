@@ -1,11 +1,10 @@
 -- `split_children` meets its contract: a turn asks of one child. Assumes nothing.
-use Prim.Native.Nat.{_+_, _*_, _-_, _≤_}
-use mathlib.Core.Path.{_≡_, sym, _∙_}
-use mathlib.Core.Bool.{true, true≢false}
+use Prim.Native.Nat.{_-_, _≤_}
+use mathlib.Core.Path.{sym, _∙_}
+use mathlib.Core.Bool.{true≢false}
 use native.Mathlib.Omega.{arith}
 use borrow.Author.Needs.{needs}
-use denote.Ref.{now}
-use Rattle.tree.specs.Down.{nodesOf, firstAt}
+use Rattle.tree.specs.Down.{nodesOf}
 use Rattle.vertices.proofs.Marks.{Filled, filled-none, filled-yes, filled-no, filled-fits, Steps, steps-is, told-none, told-all}
 use Rattle.vertices.proofs.Places.{first-is, is-first}
 use Rattle.vertices.proofs.split_children.Statement.{statement}

@@ -1,6 +1,6 @@
 -- `whole` meets its contract: there is no tree of so many vertices. Assumes nothing.
-use native.Mathlib.Omega.{arith}
 use borrow.Author.Needs.{needs}
+use Rattle.vertices.proofs.Linear.{vertices-few}
 use Rattle.vertices.proofs.Storing.{all-laid}
 use Rattle.vertices.proofs.whole.Statement.{statement}
 use Rattle.vertices.proofs.whole.Tie as tie
@@ -18,7 +18,7 @@ same-length-2 : tie.Need-same-length-2
 same-length-2 c = search needs
 
 returns : tie.Need-returns
-returns c = all-laid _ _ _ _ _ (omega arith) (c .before .before .before .before .before .from-root .ensures)
+returns c = all-laid _ _ _ _ _ (vertices-few _ (search needs)) (c .before .before .before .before .before .from-root .ensures)
 
 pub whole-spec : {M : Type 1} → statement M
 whole-spec =
