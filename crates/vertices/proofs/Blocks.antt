@@ -14,6 +14,7 @@ use lib.Seq.{sets, getD-set-same, getD-set-other}
 use borrow.Author.Tests.{ltb-true, lt-ltb, leb-true, le-leb, eqb-true, eqb-false, eq-eqb, ne-eqb}
 use Rattle.morton.specs.Level.{limit, if₀, Cell}
 use Rattle.morton.proofs.Cells.{child-cell}
+use Rattle.morton.proofs.Dilated.{axes}
 use Rattle.morton.proofs.Fields.{bit-le, coord-child}
 use Rattle.morton.proofs.Levels.{and-true, cell-lt, eight-pos, eight-mono}
 use Rattle.morton.proofs.Vertices.{up-pow, down-cell}
@@ -111,6 +112,47 @@ module _ (ks : Nodes) (l c : ℕ) where
   unfolding ending
   ending-none e = ap (λ (r : Bool). cond r (record { vertex = lowCorner l c; level = l } ∷ []) []) e
 
+  pub ending-by : (P : List Spot → Type 0) → (meets ks l c ≡ true → P (record { vertex = lowCorner l c; level = l } ∷ [])) → (meets ks l c ≡ false → P []) → P (ending ks l c)
+  ending-by P f g = decided (meets ks l c) (λ e. subst P (sym (ending-one e)) (f e)) (λ e. subst P (sym (ending-none e)) (g e))
+
+  pub undivided : divided ks l c ≡ false → (o : ℕ) → o < 8 → splitAt ks l (entry ks l c o) ≡ false
+  unfolding divided
+  undivided d o h = unless _ (λ e. true≢false (sym (some-if (λ o. splitAt ks l (entry ks l c o)) 8 o h e) ∙ d))
+
+-- what holds where the walk ends, where it stops, and of eight children in turn holds of the walk; A is known of each cell on its way
+module _ (ks : Nodes) (A : ℕ → ℕ → Type 0) (P : ℕ → ℕ → List Spot → Type 0)
+    (down : (l c q : ℕ) → q < 8 → A l c → divided ks l c ≡ true → A (suc l) (8 * c + q))
+    (end : (l c : ℕ) → l ≤ limit → A l c → divided ks l c ≡ false → P l c (ending ks l c))
+    (stop : (l c : ℕ) → l ≡ limit → A l c → divided ks l c ≡ true → P l c [])
+    (on : (l c : ℕ) → l < limit → (g : ℕ → List Spot) → ((q : ℕ) → q < 8 → P (suc l) (8 * c + q) (g q)) → P l c (inTurn g 8)) where
+  pub walk-ind : (f l c : ℕ) → l + f ≡ limit → A l c → P l c (walked f ks l c)
+  walk-ind zero l c e a =
+      decided (divided ks l c) (λ d. subst (P l c) (sym (walked-stop ks l c d)) (stop l c (omega arith) a d))
+      (λ d. subst (P l c) (sym (walked-end ks l c 0 d)) (end l c (omega arith) a d))
+  walk-ind (suc f) l c e a =
+      decided (divided ks l c)
+      (λ d. subst (P l c) (sym (walked-on ks l c f d)) (on l c (omega arith) _ (λ q h. walk-ind f (suc l) (8 * c + q) (omega arith) (down l c q h a d))))
+      (λ d. subst (P l c) (sym (walked-end ks l c (suc f) d)) (end l c (omega arith) a d))
+
+-- all of some vertices
+abbrev pub Each : (Spot → Type 0) → List Spot → Type 0
+Each P [] = Unit {0}
+Each P (s ∷ ss) = P s × Each P ss
+
+pub each-map : {P Q : Spot → Type 0} → ((s : Spot) → P s → Q s) → (ss : List Spot) → Each P ss → Each Q ss
+each-map f [] a = tt
+each-map f (s ∷ ss) a = (f s (a .0), each-map f ss (a .1))
+
+module _ (P : Spot → Type 0) where
+  each-append : (ss ts : List Spot) → Each P ss → Each P ts → Each P (ss ++ ts)
+  each-append [] ts a b = b
+  each-append (s ∷ ss) ts a b = (a .0, each-append ss ts (a .1) b)
+
+  pub each-turn : (g : ℕ → List Spot) (n : ℕ) → ((q : ℕ) → q < n → Each P (g q)) → Each P (inTurn g n)
+  unfolding inTurn
+  each-turn g zero each = tt
+  each-turn g (suc n) each = each-append (inTurn g n) (g n) (each-turn g n (λ q h. each q (omega arith))) (each n (omega arith))
+
 -- a split entry is the cell that lies that way
 side-entry : (ks : Nodes) (l c o : ℕ) → l ≤ limit → Cell l c → o < 8 → splitAt ks l (entry ks l c o) ≡ true → sub c o ≡ entry ks l c o
 unfolding near Within
@@ -157,13 +199,7 @@ module _ (l c low : ℕ) (h : Low l c low) where
       go (yes z) = z
       go (no n) =
           let s = some-marked 3 low (h .small) n in
-          absurd (omega (arith, eqb-true (coord l c (s .0)) 0 (sym (h .marks (s .0) (s .1)) ∙ s .2), w (s .0) (s .1), seven (s .0) (s .1)))
-        where
-          seven : (a : ℕ) → a < 3 → bit a 7 ≡ 1
-          seven zero l3 = refl
-          seven (suc zero) l3 = refl
-          seven (suc (suc zero)) l3 = refl
-          seven (suc (suc (suc a))) l3 = absurd (omega arith)
+          absurd (omega (arith, eqb-true (coord l c (s .0)) 0 (sym (h .marks (s .0) (s .1)) ∙ s .2), w (s .0) (s .1), axes (λ a. bit a 7 ≡ 1) refl refl refl (s .0) (s .1)))
 
 -- where an entry of child q stands, by whether the parent's entry is split
 pub lowered-is : (at : List ℕ) (mask q o : ℕ) {r : Bool} → marked mask (bitAnd o (7 - q)) ≡ r

@@ -1,5 +1,5 @@
 -- What a child sees of its parent's block: the rules of the two constant tables, each tested once over the whole table. Assumes nothing.
-use Prim.Native.Nat.{ℕ, zero, suc, _+_, _*_, _-_, _^_, _<_}
+use Prim.Native.Nat.{ℕ, _+_, _*_, _-_, _^_, _≤_, _<_}
 use mathlib.Core.Path.{_≡_, refl, sym, _∙_, ap}
 use mathlib.Core.Bool.{Bool, true, not, _||_, true≢false}
 use native.Mathlib.Omega.{arith}
@@ -16,16 +16,11 @@ each : (f : ℕ → ℕ → Bool) → all (λ q. all (f q) 8) 8 ≡ true → (q 
 each f t q o hq ho = all-is (f q) 8 (all-is (λ q. all (f q) 8) 8 t q hq) o ho
 
 -- the last of eight choices
-pub last-of-eight : (q : ℕ) → q < 8 → (q ≡ 0 → ⊥) → (q ≡ 1 → ⊥) → (q ≡ 2 → ⊥) → (q ≡ 3 → ⊥) → (q ≡ 4 → ⊥) → (q ≡ 5 → ⊥) → (q ≡ 6 → ⊥) → q ≡ 7
-last-of-eight zero h a b c d e f g = absurd (a refl)
-last-of-eight (suc zero) h a b c d e f g = absurd (b refl)
-last-of-eight (suc (suc zero)) h a b c d e f g = absurd (c refl)
-last-of-eight (suc (suc (suc zero))) h a b c d e f g = absurd (d refl)
-last-of-eight (suc (suc (suc (suc zero)))) h a b c d e f g = absurd (e refl)
-last-of-eight (suc (suc (suc (suc (suc zero))))) h a b c d e f g = absurd (f refl)
-last-of-eight (suc (suc (suc (suc (suc (suc zero)))))) h a b c d e f g = absurd (g refl)
-last-of-eight (suc (suc (suc (suc (suc (suc (suc zero))))))) h a b c d e f g = refl
-last-of-eight (suc (suc (suc (suc (suc (suc (suc (suc q)))))))) h a b c d e f g = absurd (omega arith)
+pub past-four : (q : ℕ) → (q ≡ 0 → ⊥) → (q ≡ 1 → ⊥) → (q ≡ 2 → ⊥) → (q ≡ 3 → ⊥) → 4 ≤ q
+past-four q a b c d = omega arith
+
+pub last-of-eight : (q : ℕ) → q < 8 → 4 ≤ q → (q ≡ 4 → ⊥) → (q ≡ 5 → ⊥) → (q ≡ 6 → ⊥) → q ≡ 7
+last-of-eight q h l a b c = omega arith
 
 -- ---- the entries' children
 

@@ -1,10 +1,10 @@
 -- The walk over a sound tree finds its vertices: so the list of one who trusts is the list. Assumes nothing.
 use Prim.Native.Nat.{ℕ, zero, suc, _+_, _*_, _-_, _^_, _≤_, _<_}
-use mathlib.Core.Path.{_≡_, refl, sym, _∙_, ap, subst}
-use mathlib.Core.Bool.{Bool, true, false, true≢false}
+use mathlib.Core.Path.{_≡_, sym, _∙_, ap, subst}
+use mathlib.Core.Bool.{true, false, true≢false}
 use mathlib.Core.Logic.{inr}
 use mathlib.Core.List.{List, [], _++_}
-use native.Mathlib.Nat.{add-mul, mul-assoc, mul-comm, pow-suc}
+use native.Mathlib.Nat.{mul-le-mul-right, add-mul, mul-assoc, mul-comm, pow-suc}
 use native.Mathlib.Decide.{decLt}
 use native.Mathlib.Omega.{arith}
 use lib.Dec.{leb, ltb}
@@ -19,10 +19,10 @@ use Rattle.tree.proofs.Pass.{said}
 use Rattle.geometry.specs.Listing.{Listed}
 use Rattle.vertices.specs.declared.ListAnswer.{ListAnswer}
 use Rattle.vertices.specs.declared.ListAnswer.the-variants as list
-use Rattle.vertices.specs.Walk.{splitAt, entry, Spot, inTurn, lowCorner, divided, meets, ending, walked, spotsOf, verticesOf, levelsOf}
+use Rattle.vertices.specs.Walk.{splitAt, entry, Spot, inTurn, lowCorner, divided, meets, ending, spotsOf, verticesOf, levelsOf}
 use Rattle.vertices.specs.Listing.{Lists, Room, ListSays, TrustingSays}
-use Rattle.vertices.proofs.Blocks.{some-if, some-is, all-if, all-is, walked-end, walked-on, ending-one, ending-none, vertices-append, levels-append, vertices-length}
-use Rattle.vertices.proofs.Sound.{SoundKeys, SplitAt, Fresh, block-of, fresh-child}
+use Rattle.vertices.proofs.Blocks.{some-if, some-is, all-if, all-is, walk-ind, ending-by, undivided, vertices-append, levels-append, vertices-length}
+use Rattle.vertices.proofs.Sound.{SoundKeys, SplitAt, Fresh, Block, block-of, fresh-child}
 use Rattle.vertices.proofs.Spot.{Meets, corner-next}
 use Rattle.vertices.proofs.Range.{Ranged, joined, ranged-empty, none-here, one-here, all-listed}
 
@@ -46,6 +46,10 @@ module _ (l c : ℕ) (h : l < deepest) where
 
 pub corner-last : (l c : ℕ) → l < deepest → lowCorner (suc l) (8 * c + 8) ≡ lowCorner l (c + 1)
 corner-last l c h = ap (lowCorner (suc l)) (omega arith) ∙ corner-first l (c + 1) h
+
+pub corner-mono : (l b c : ℕ) → b ≤ c → lowCorner l b ≤ lowCorner l c
+unfolding lowCorner
+corner-mono l b c h = mul-le-mul-right {m = b} {n = c} (8 ^ (deepest - l)) h
 
 -- ---- the walk
 
@@ -83,25 +87,22 @@ module _ (ks : Nodes) where
           | no n ↦ absurd (omega (arith, s .deep, k, eight-mono {i = limit} {j = l} (omega arith)))
         ]
 
-    module _ (l c : ℕ) (hl : l ≤ limit) (cc : Cell l c) (f : Fresh ks l c) where
-      spots-end : divided ks l c ≡ false → Spots (lowCorner l c) (lowCorner l (c + 1)) (ending ks l c)
-      unfolding divided verticesOf levelsOf
-      spots-end d = go (meets ks l c) refl
-        where
-          still : (o : ℕ) → o < 8 → splitAt ks l (entry ks l c o) ≡ false
-          still o ho = no (splitAt ks l (entry ks l c o)) refl
-            where
-              no : (r : Bool) → splitAt ks l (entry ks l c o) ≡ r → splitAt ks l (entry ks l c o) ≡ false
-              no true e = absurd (true≢false (sym (some-if (λ o. splitAt ks l (entry ks l c o)) 8 o ho e) ∙ d))
-              no false e = e
+    -- what holds of the walk over a sound tree
+    pub walk-sound : (P : ℕ → ℕ → List Spot → Type 0) → ((l c : ℕ) → l ≤ limit → Cell l c × Fresh ks l c → divided ks l c ≡ false → P l c (ending ks l c))
+        → ((l c : ℕ) → l < limit → (g : ℕ → List Spot) → ((q : ℕ) → q < 8 → P (suc l) (8 * c + q) (g q)) → P l c (inTurn g 8)) → P 0 1 (spotsOf ks)
+    unfolding spotsOf
+    walk-sound P end on =
+        walk-ind ks (λ l c. Cell l c × Fresh ks l c) P
+        (λ l c q h a d. (child-cell l c q (a .0) (omega arith), fresh-child ks l c q h d)) end
+        (λ l c e a d. absurd (omega (arith, divided-lt l c (a .1) d))) on limit 0 1 (omega arith)
+        (record { low = omega arith; high = omega arith }, λ z. absurd (omega arith))
 
-          go : (r : Bool) → meets ks l c ≡ r → Spots (lowCorner l c) (lowCorner l (c + 1)) (ending ks l c)
-          go true e =
-              subst (Spots (lowCorner l c) (lowCorner l (c + 1))) (sym (ending-one ks l c e))
-              (one-here ks t l c hl cc (block-of ks t l c f) still (meets-is l c e))
-          go false e =
-              subst (Spots (lowCorner l c) (lowCorner l (c + 1))) (sym (ending-none ks l c e))
-              (none-here ks t l c hl cc (block-of ks t l c f) still (λ m. true≢false (sym (meets-if l c m) ∙ e)))
+    spots-end : (l c : ℕ) → l ≤ limit → Cell l c × Fresh ks l c → divided ks l c ≡ false → Spots (lowCorner l c) (lowCorner l (c + 1)) (ending ks l c)
+    unfolding verticesOf levelsOf
+    spots-end l c hl a d =
+        let blk : Block ks l c = block-of ks t l c (a .1) in
+        ending-by ks l c (Spots (lowCorner l c) (lowCorner l (c + 1))) (λ e. one-here ks t l c hl (a .0) blk (undivided ks l c d) (meets-is l c e))
+        (λ e. none-here ks t l c hl (a .0) blk (undivided ks l c d) (λ m. true≢false (sym (meets-if l c m) ∙ e)))
 
     -- one range after another
     spots-join : (l c n : ℕ) (ss ts : List Spot) → l < deepest → Spots (lowCorner l c) (lowCorner (suc l) (8 * c + n)) ss
@@ -121,33 +122,17 @@ module _ (ks : Nodes) where
         subst (λ (k : ℕ). Ranged ks (lowCorner l c) k [] []) e (ranged-empty ks (lowCorner l c))
     spots-turn l c (suc n) g hl hn each = spots-join l c n (inTurn g n) (g n) hl (spots-turn l c n g hl (omega arith) each) (each n (omega arith))
 
-    spots-walked : (f l c : ℕ) → l + f ≡ limit → Cell l c → Fresh ks l c → Spots (lowCorner l c) (lowCorner l (c + 1)) (walked f ks l c)
-    spots-walked zero l c e cc fr = go (divided ks l c) refl
-      where
-        go : (r : Bool) → divided ks l c ≡ r → Spots (lowCorner l c) (lowCorner l (c + 1)) (walked 0 ks l c)
-        go true d = absurd (omega (arith, divided-lt l c fr d))
-        go false d = subst (Spots (lowCorner l c) (lowCorner l (c + 1))) (sym (walked-end ks l c 0 d)) (spots-end l c (omega arith) cc fr d)
-    spots-walked (suc f) l c e cc fr =
-        go (divided ks l c) refl
-        (λ d q hq. spots-walked f (suc l) (8 * c + q) (omega arith) (child-cell l c q cc (omega arith)) (fresh-child ks l c q hq d))
-      where
-        go : (r : Bool) → divided ks l c ≡ r
-            → (divided ks l c ≡ true → (q : ℕ) → q < 8 → Spots (lowCorner (suc l) (8 * c + q)) (lowCorner (suc l) (8 * c + q + 1)) (walked f ks (suc l) (8 * c + q)))
-            → Spots (lowCorner l c) (lowCorner l (c + 1)) (walked (suc f) ks l c)
-        go true d each =
-            subst (Spots (lowCorner l c) (lowCorner l (c + 1))) (sym (walked-on ks l c f d))
-            (subst (λ (k : ℕ). Spots (lowCorner l c) k (inTurn (λ q. walked f ks (suc l) (8 * c + q)) 8)) (corner-last l c (omega arith))
-            (spots-turn l c 8 (λ q. walked f ks (suc l) (8 * c + q)) (omega arith) (omega arith) (each d)))
-        go false d each = subst (Spots (lowCorner l c) (lowCorner l (c + 1))) (sym (walked-end ks l c (suc f) d)) (spots-end l c (omega arith) cc fr d)
+    spots-walked : Spots (lowCorner 0 1) (lowCorner 0 2) (spotsOf ks)
+    spots-walked =
+        walk-sound (λ l c. Spots (lowCorner l c) (lowCorner l (c + 1))) spots-end
+        (λ l c h g each. subst (λ (k : ℕ). Spots (lowCorner l c) k (inTurn g 8)) (corner-last l c (omega arith)) (spots-turn l c 8 g (omega arith) (omega arith) each))
 
 -- ---- the whole tree
 
 pub spots-listed : (t : Tree) → Sound t → Listed (t .leaves) (verticesOf (spotsOf (nodes t))) (levelsOf (spotsOf (nodes t)))
-unfolding spotsOf
 spots-listed t s =
-    all-listed (nodes t) (t .distances) (t .leaves) s (verticesOf (walked limit (nodes t) 0 1)) (levelsOf (walked limit (nodes t) 0 1))
-    (spots-walked (nodes t) (record { distances = t .distances; leaves = t .leaves; sound = s }) limit 0 1 (omega arith)
-    (record { low = omega arith; high = omega arith }) (λ z. absurd (omega arith)))
+    all-listed (nodes t) (t .distances) (t .leaves) s (verticesOf (spotsOf (nodes t))) (levelsOf (spotsOf (nodes t)))
+    (spots-walked (nodes t) (record { distances = t .distances; leaves = t .leaves; sound = s }))
 
 -- of a sound tree the list of one who trusts is the list
 pub trusting-list : (t : Tree) → Sound t → (start : ℕ) (was left : Lists) (r : ListAnswer) → TrustingSays (nodes t) start was left r → ListSays t start was left r

@@ -16,6 +16,7 @@ use Rattle.morton.specs.Field.{bit, sub}
 use Rattle.morton.proofs.Fields.{bit-le, div-step, mul-step}
 use Rattle.morton.proofs.Levels.{and-true}
 use Rattle.tree.specs.Tree.{Decides}
+use Rattle.tree.proofs.Lists.{unless}
 use Rattle.tree.specs.Down.{Nodes, firstAt, leads, steps}
 use Rattle.tree.proofs.Down.{leads-none}
 use Rattle.vertices.specs.Block.{marked, ChildMarks, BelowMarks, loweredMark, LoweredMarks}
@@ -238,11 +239,8 @@ marked-and m n i = go (bit i m) (bit i n) (bit i (bitAnd m n)) (bit-le i m) (bit
 
 -- nothing in common with a mask that has the bit
 pub apart : (m n i : ℕ) → bitAnd m n ≡ 0 → marked n i ≡ true → marked m i ≡ false
-apart m n i z e = go (marked m i) refl
-  where
-    go : (r : Bool) → marked m i ≡ r → marked m i ≡ false
-    go true t = absurd (true≢false (sym (marked-and m n i ∙ ap₂ _&&_ t e) ∙ ap (λ (x : ℕ). marked x i) z ∙ marked-zero i))
-    go false t = t
+apart m n i z e =
+    unless (marked m i) (λ t. true≢false (sym (marked-and m n i ∙ ap₂ _&&_ t e) ∙ ap (λ (x : ℕ). marked x i) z ∙ marked-zero i))
 
 -- something in common
 pub shared : (k m n : ℕ) → m < 2 ^ k → (bitAnd m n ≡ 0 → ⊥) → (i : ℕ) × (i < k) × (marked m i ≡ true) × (marked n i ≡ true)

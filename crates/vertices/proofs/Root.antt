@@ -5,72 +5,56 @@ use mathlib.Core.Bool.{Bool, true, false}
 use mathlib.Core.List.{List, [], _∷_, _++_, append-nil}
 use native.Mathlib.Nat.{zero-add, zero-div}
 use native.Mathlib.Omega.{arith}
-use lib.Dec.{eqb, ltb}
+use lib.Dec.{eqb}
 use lib.ListN.{length, getD, take, drop, length-drop, drop-of-length-le}
 use lib.Seq.{sets, sets-eq, drop-drop, take-all}
-use borrow.Author.Tests.{ltb-true}
 use borrow.Rule.Slice.PartMut.{midOf, putMid}
 use Rattle.morton.specs.Field.{coord, third, weave}
 use Rattle.morton.specs.Level.{limit, if₀}
-use Rattle.morton.proofs.Levels.{and-true}
+use Rattle.morton.proofs.Dilated.{axes}
 use Rattle.tree.specs.Down.{Nodes, firstAt, leads, steps, reach, isSplit, over, placeOver}
 use Rattle.vertices.specs.declared.ListAnswer.the-variants as list
-use Rattle.geometry.specs.Near.{near}
+use Rattle.tree.proofs.Lists.{unless}
+use Rattle.geometry.specs.Near.{near, inCube}
 use Rattle.vertices.specs.Walk.{splitAt, entry, placeAt, Spot, divided, meets, walked, spotsOf, verticesOf, levelsOf}
 use Rattle.vertices.specs.Listing.{listsOf, written, Room, TrustingSays}
 use Rattle.vertices.specs.Cells.{Cells}
 use Rattle.vertices.specs.Block.{marked, Here, Laid, Stored}
-use Rattle.vertices.proofs.Storing.{stored-none}
+use Rattle.vertices.proofs.Storing.{eight-at, stored-none}
+use Rattle.vertices.proofs.Law.{meets-is}
 use Rattle.geometry.proofs.Offsets.{Within, no-bits, cube-in, cube-out}
 use Rattle.vertices.proofs.Entries.{split-low, split-at, entry-in, entry-out, place-in, place-out}
 use Rattle.vertices.proofs.Marks.{marked-first, marked-one}
-use Rattle.vertices.proofs.Blocks.{none-is, some-if, all-is, walked-end, ending-none, vertices-length, levels-length}
+use Rattle.vertices.proofs.Blocks.{none-is, some-if, walked-end, ending-none, vertices-length, levels-length}
 
 module _ (ks : Nodes) where
-  entry-root : entry ks 0 1 0 ≡ 1
-  unfolding near over third weave Within
-  entry-root = entry-in ks 0 1 0 (cube-in 0 1 0 (λ a h. omega (arith, zero-div (2 ^ a))))
+  -- of the root's entries the first alone lies in the cube
+  root-in : inCube 0 1 0 ≡ true
+  unfolding Within
+  root-in = cube-in 0 1 0 (λ a h. omega (arith, zero-div (2 ^ a)))
 
-  entry-rest : (o : ℕ) → 0 < o → o < 8 → entry ks 0 1 o ≡ 0
+  root-out : (o : ℕ) → suc o < 8 → inCube 0 1 (suc o) ≡ false
   unfolding Within third
-  entry-rest o p h = entry-out ks 0 1 o (cube-out 0 1 o (λ w. omega (arith, no-bits o h (λ a l. omega (arith, w a l, none a)))))
+  root-out o h = cube-out 0 1 (suc o) (λ w. omega (arith, no-bits (suc o) h (λ a l. omega (arith, w a l, none a))))
     where
       none : (a : ℕ) → coord 0 1 a ≡ 0
       none a = refl
 
   split-root : splitAt ks 0 (entry ks 0 1 0) ≡ steps ks 0 1
-  unfolding isSplit reach
-  split-root = ap (splitAt ks 0) entry-root ∙ split-at ks 0 1 (omega arith)
+  unfolding isSplit reach near over third weave
+  split-root = ap (splitAt ks 0) (entry-in ks 0 1 0 root-in) ∙ split-at ks 0 1 (omega arith)
 
-  split-rest : (o : ℕ) → 0 < o → o < 8 → splitAt ks 0 (entry ks 0 1 o) ≡ false
-  split-rest o p h = split-low ks 0 (entry ks 0 1 o) (omega (arith, entry-rest o p h))
+  split-rest : (o : ℕ) → suc o < 8 → splitAt ks 0 (entry ks 0 1 (suc o)) ≡ false
+  split-rest o h = split-low ks 0 (entry ks 0 1 (suc o)) (omega (arith, entry-out ks 0 1 (suc o) (root-out o h)))
+
+  place-root : placeAt ks 0 1 0 ≡ 0
+  unfolding near placeOver third weave
+  place-root = place-in ks 0 1 0 root-in
 
   -- where they stand
-  place-root : placeAt ks 0 1 0 ≡ 0
-  unfolding near placeOver third weave Within
-  place-root = place-in ks 0 1 0 (cube-in 0 1 0 (λ a h. omega (arith, zero-div (2 ^ a))))
-
-  place-rest : (o : ℕ) → 0 < o → o < 8 → placeAt ks 0 1 o ≡ 0
-  unfolding Within third
-  place-rest o p h = place-out ks 0 1 o (cube-out 0 1 o (λ w. omega (arith, no-bits o h (λ a l. omega (arith, w a l, none a)))))
-    where
-      none : (a : ℕ) → coord 0 1 a ≡ 0
-      none a = refl
-
-  zeros : (x o : ℕ) → 0 < o → o < 8 → getD (x ∷ 0 ∷ 0 ∷ 0 ∷ 0 ∷ 0 ∷ 0 ∷ 0 ∷ []) o 0 ≡ 0
-  zeros x zero p h = absurd (omega arith)
-  zeros x (suc zero) p h = refl
-  zeros x (suc (suc zero)) p h = refl
-  zeros x (suc (suc (suc zero))) p h = refl
-  zeros x (suc (suc (suc (suc zero)))) p h = refl
-  zeros x (suc (suc (suc (suc (suc zero))))) p h = refl
-  zeros x (suc (suc (suc (suc (suc (suc zero)))))) p h = refl
-  zeros x (suc (suc (suc (suc (suc (suc (suc zero))))))) p h = refl
-  zeros x (suc (suc (suc (suc (suc (suc (suc (suc o)))))))) p h = absurd (omega arith)
-
-  meets-full : (l c : ℕ) → meets ks l c ≡ true → (o : ℕ) → o < 8 → 0 < entry ks l c o
-  unfolding meets
-  meets-full l c m o h = ltb-true 0 _ (all-is (λ o. ltb 0 (entry ks l c o)) 8 (and-true _ _ m .0) o h)
+  abbrev rootAt : ℕ → ℕ → ℕ
+  rootAt p zero = p
+  rootAt p (suc o) = 0
 
   -- where the root's children stand
   module _ (p : ℕ) (e : p ≡ getD (ks .firsts) 0 0) where
@@ -89,42 +73,32 @@ module _ (ks : Nodes) where
             marks = marks r;
             eight-places = refl;
             stands = stands;
-            side = record { small = omega arith; marks = sides };
+            side = record { small = omega arith; marks = axes (λ a. marked 7 a ≡ eqb (coord 0 1 a) 0) refl refl refl };
           },
           some-if (λ o. splitAt ks 0 (entry ks 0 1 o)) 8 0 (omega arith) (split-root ∙ r),
         )
       where
-        sides : (a : ℕ) → a < 3 → marked 7 a ≡ eqb (coord 0 1 a) 0
-        sides zero h = refl
-        sides (suc zero) h = refl
-        sides (suc (suc zero)) h = refl
-        sides (suc (suc (suc a))) h = absurd (omega arith)
-
         marks : steps ks 0 1 ≡ true → (o : ℕ) → o < 8 → marked 1 o ≡ splitAt ks 0 (entry ks 0 1 o)
         marks r zero h = marked-first ∙ sym (split-root ∙ r)
-        marks r (suc o) h = marked-one (suc o) (omega arith) ∙ sym (split-rest (suc o) (omega arith) h)
+        marks r (suc o) h = marked-one (suc o) (omega arith) ∙ sym (split-rest o h)
 
         stands : (o : ℕ) → o < 8 → getD (p ∷ 0 ∷ 0 ∷ 0 ∷ 0 ∷ 0 ∷ 0 ∷ 0 ∷ []) o 0 ≡ if₀ (marked 1 o) (firstAt ks (placeAt ks 0 1 o)) (placeAt ks 0 1 o)
         stands zero h =
             e ∙ ap (λ (n : ℕ). getD (ks .firsts) n 0) (sym place-root) ∙ sym (ap (λ (r : Bool). if₀ r (firstAt ks (placeAt ks 0 1 0)) (placeAt ks 0 1 0)) marked-first)
         stands (suc o) h =
-            zeros p (suc o) (omega arith) h
-            ∙ sym (place-rest (suc o) (omega arith) h)
+            eight-at (rootAt p) (suc o) h
+            ∙ sym (place-out ks 0 1 (suc o) (root-out o h))
             ∙ sym (ap (λ (r : Bool). if₀ r (firstAt ks (placeAt ks 0 1 (suc o))) (placeAt ks 0 1 (suc o))) (marked-one (suc o) (omega arith)))
 
     pub root-none : leads (ks .keys) p 8 ≡ false → spotsOf ks ≡ []
     unfolding divided spotsOf
     root-none n =
-        let r : steps ks 0 1 ≡ false = steps-root false n in
-        walked-end ks 0 1 limit (none-is (λ o. splitAt ks 0 (entry ks 0 1 o)) 8 (unsplit r)) ∙ ending-none ks 0 1 (alone (meets ks 0 1) refl)
+        walked-end ks 0 1 limit (none-is (λ o. splitAt ks 0 (entry ks 0 1 o)) 8 unsplit)
+        ∙ ending-none ks 0 1 (unless (meets ks 0 1) (λ m. omega (arith, meets-is ks 0 1 m .full 1 (omega arith), entry-out ks 0 1 1 (root-out 0 (omega arith)))))
       where
-        unsplit : steps ks 0 1 ≡ false → (o : ℕ) → o < 8 → splitAt ks 0 (entry ks 0 1 o) ≡ false
-        unsplit r zero h = split-root ∙ r
-        unsplit r (suc o) h = split-rest (suc o) (omega arith) h
-
-        alone : (r : Bool) → meets ks 0 1 ≡ r → meets ks 0 1 ≡ false
-        alone true m = absurd (omega (arith, meets-full 0 1 m 1 (omega arith), entry-rest 1 (omega arith) (omega arith)))
-        alone false m = m
+        unsplit : (o : ℕ) → o < 8 → splitAt ks 0 (entry ks 0 1 o) ≡ false
+        unsplit zero h = split-root ∙ steps-root false n
+        unsplit (suc o) h = split-rest o h
 
     pub root-alone : leads (ks .keys) p 8 ≡ false → (from room : ℕ) (t : Cells) → Stored ks from room (spotsOf ks) 0 0 t t
     root-alone n from room t = subst (λ (ss : List Spot). Stored ks from room ss 0 0 t t) (sym (root-none n)) (stored-none ks from room 0 t)

@@ -1,7 +1,7 @@
 -- The places that are handed out for a vertex of a sound tree are those of its dual cell's nodes. Assumes nothing.
 use Prim.Native.Nat.{ℕ, zero, suc, _+_, _*_, _-_, _/_, _^_, _≤_, _<_}
 use mathlib.Core.Path.{_≡_, refl, sym, _∙_, ap, ap₂, subst}
-use mathlib.Core.Bool.{Bool, true, false, cond, true≢false}
+use mathlib.Core.Bool.{Bool, true, false, cond}
 use mathlib.Core.List.{List, [], _∷_, _++_}
 use native.Mathlib.Omega.{arith}
 use lib.Dec.{leb}
@@ -11,7 +11,6 @@ use lib.Seq.{getD-append-add}
 use Rattle.morton.specs.Field.{bit, coord}
 use Rattle.morton.specs.Level.{deepest, limit, Cell, level}
 use Rattle.morton.specs.Vertex.{sideOf}
-use Rattle.morton.proofs.Cells.{child-cell}
 use Rattle.morton.specs.Field.{sub}
 use Rattle.morton.proofs.Fields.{bit-le, cell-up, coord-lt}
 use Rattle.morton.proofs.Sides.{sub-key}
@@ -24,33 +23,20 @@ use Rattle.tree.proofs.Finding.{nodes}
 use Rattle.geometry.proofs.Shape.{sound-shape}
 use Rattle.geometry.proofs.Lookup.{none-between, root-leaf}
 use Rattle.geometry.specs.Near.{near}
-use Rattle.vertices.specs.Walk.{splitAt, entry, placeAt, Spot, inTurn, lowCorner, divided, meets, ending, walked, spotsOf, verticesOf, levelsOf}
-use Rattle.vertices.specs.Cells.{since, wanted, eight, roundOf, placesOf, Cells, roomOf, CellsSays}
+use Rattle.vertices.specs.Walk.{splitAt, entry, placeAt, Spot, lowCorner, spotsOf, verticesOf, levelsOf}
+use Rattle.vertices.specs.Cells.{since, wanted, roundOf, placesOf, Cells, roomOf, CellsSays}
 use Rattle.vertices.specs.Listing.{written}
 use Rattle.geometry.proofs.Offsets.{Within, near-cell, cube-in}
 use Rattle.vertices.proofs.Entries.{entry-in, place-in}
-use Rattle.vertices.proofs.Blocks.{some-if, walked-end, walked-on, ending-one, ending-none, vertices-length, levels-length}
-use Rattle.vertices.proofs.Sound.{SoundKeys, Over, Fresh, Block, block-of, fresh-child, over-childless, place-stands}
+use Rattle.vertices.proofs.Blocks.{Each, each-turn, ending-by, undivided, vertices-length, levels-length}
+use Rattle.vertices.proofs.Sound.{SoundKeys, Over, Fresh, Block, block-of, over-childless, place-stands}
 use Rattle.vertices.proofs.Spot.{Meets, corner-cell, coord-some}
-use Rattle.vertices.proofs.Law.{meets-is, divided-lt}
-use Rattle.vertices.proofs.Storing.{places-length}
+use Rattle.vertices.proofs.Law.{meets-is, walk-sound}
+use Rattle.vertices.proofs.Storing.{eight-at, places-length}
 
 -- ---- all of some vertices
 
-abbrev pub Each : (Spot → Type 0) → List Spot → Type 0
-Each P [] = Unit {0}
-Each P (s ∷ ss) = P s × Each P ss
-
 module _ (P : Spot → Type 0) where
-  each-append : (ss ts : List Spot) → Each P ss → Each P ts → Each P (ss ++ ts)
-  each-append [] ts a b = b
-  each-append (s ∷ ss) ts a b = (a .0, each-append ss ts (a .1) b)
-
-  each-turn : (g : ℕ → List Spot) (n : ℕ) → ((q : ℕ) → q < n → Each P (g q)) → Each P (inTurn g n)
-  unfolding inTurn
-  each-turn g zero each = tt
-  each-turn g (suc n) each = each-append (inTurn g n) (g n) (each-turn g n (λ q h. each q (omega arith))) (each n (omega arith))
-
   each-since : (from : ℕ) (ss : List Spot) → Each P ss → Each P (since from ss)
   unfolding since
   each-since from [] a = tt
@@ -70,17 +56,6 @@ module _ (P : Spot → Type 0) where
   each-wanted from room ss a = each-take room (since from ss) (each-since from ss a)
 
 -- ---- the nodes round a vertex
-
-eight-at : (f : ℕ → ℕ) (i : ℕ) → i < 8 → getD (eight f) i 0 ≡ f i
-eight-at f zero h = refl
-eight-at f (suc zero) h = refl
-eight-at f (suc (suc zero)) h = refl
-eight-at f (suc (suc (suc zero))) h = refl
-eight-at f (suc (suc (suc (suc zero)))) h = refl
-eight-at f (suc (suc (suc (suc (suc zero))))) h = refl
-eight-at f (suc (suc (suc (suc (suc (suc zero)))))) h = refl
-eight-at f (suc (suc (suc (suc (suc (suc (suc zero))))))) h = refl
-eight-at f (suc (suc (suc (suc (suc (suc (suc (suc i)))))))) h = absurd (omega arith)
 
 -- entry i of the dual cell of v at level L stands at the place p: it is the deepest ancestor of side i
 abbrev pub EntryAt : Tree → ℕ → ℕ → ℕ → ℕ → Type 0
@@ -198,42 +173,11 @@ module _ (t : Tree) (S : Sound t) where
         (ap (λ (k : ℕ). placeAt (nodes t) l k i) (sym (corner-cell l c)) ∙ sym (eight-at (λ o. placeAt (nodes t) l (lowCorner l c / 8 ^ (deepest - l)) o) i hi))
         (entry-at i hi)
 
-  rounds-end : (l c : ℕ) → l ≤ limit → Cell l c → Fresh (nodes t) l c → divided (nodes t) l c ≡ false → Each Round (ending (nodes t) l c)
-  unfolding divided
-  rounds-end l c hl cc f d = go (meets (nodes t) l c) refl
-    where
-      still : (o : ℕ) → o < 8 → splitAt (nodes t) l (entry (nodes t) l c o) ≡ false
-      still o ho = no (splitAt (nodes t) l (entry (nodes t) l c o)) refl
-        where
-          no : (r : Bool) → splitAt (nodes t) l (entry (nodes t) l c o) ≡ r → splitAt (nodes t) l (entry (nodes t) l c o) ≡ false
-          no true e = absurd (true≢false (sym (some-if (λ o. splitAt (nodes t) l (entry (nodes t) l c o)) 8 o ho e) ∙ d))
-          no false e = e
-
-      go : (r : Bool) → meets (nodes t) l c ≡ r → Each Round (ending (nodes t) l c)
-      go true e = subst (Each Round) (sym (ending-one (nodes t) l c e)) (round-here l c hl cc f still (meets-is (nodes t) l c e), tt)
-      go false e = subst (Each Round) (sym (ending-none (nodes t) l c e)) tt
-
-  rounds-walked : (n l c : ℕ) → l + n ≡ limit → Cell l c → Fresh (nodes t) l c → Each Round (walked n (nodes t) l c)
-  rounds-walked zero l c e cc f = go (divided (nodes t) l c) refl
-    where
-      go : (r : Bool) → divided (nodes t) l c ≡ r → Each Round (walked 0 (nodes t) l c)
-      go true d = absurd (omega (arith, divided-lt (nodes t) keys-sound l c f d))
-      go false d = subst (Each Round) (sym (walked-end (nodes t) l c 0 d)) (rounds-end l c (omega arith) cc f d)
-  rounds-walked (suc n) l c e cc f =
-      go (divided (nodes t) l c) refl
-      (λ d q hq. rounds-walked n (suc l) (8 * c + q) (omega arith) (child-cell l c q cc (omega arith)) (fresh-child (nodes t) l c q hq d))
-    where
-      go : (r : Bool) → divided (nodes t) l c ≡ r
-          → (divided (nodes t) l c ≡ true → (q : ℕ) → q < 8 → Each Round (walked n (nodes t) (suc l) (8 * c + q)))
-          → Each Round (walked (suc n) (nodes t) l c)
-      go true d each =
-          subst (Each Round) (sym (walked-on (nodes t) l c n d)) (each-turn Round (λ q. walked n (nodes t) (suc l) (8 * c + q)) 8 (each d))
-      go false d each = subst (Each Round) (sym (walked-end (nodes t) l c (suc n) d)) (rounds-end l c (omega arith) cc f d)
-
   rounds : Each Round (spotsOf (nodes t))
-  unfolding spotsOf
   rounds =
-      rounds-walked limit 0 1 (omega arith) (record { low = omega arith; high = omega arith }) (λ z. absurd (omega arith))
+      walk-sound (nodes t) keys-sound (λ l c. Each Round)
+      (λ l c hl a d. ending-by (nodes t) l c (Each Round) (λ e. (round-here l c hl (a .0) (a .1) (undivided (nodes t) l c d) (meets-is (nodes t) l c e), tt)) (λ e. tt))
+      (λ l c h g each. each-turn Round g 8 each)
 
   -- ---- in the tables
 

@@ -1,26 +1,26 @@
 -- What is wanted of the walk, and what the tables of cells hold, on any table of keys. Assumes nothing.
-use Prim.Native.Nat.{ℕ, zero, suc, _+_, _*_, _-_, _/_, _^_, _≤_, _<_, min}
+use Prim.Native.Nat.{ℕ, zero, suc, _+_, _*_, _-_, _/_, _≤_, _<_, min}
 use mathlib.Core.Path.{_≡_, refl, sym, _∙_, ap, subst}
 use mathlib.Core.Bool.{Bool, true, false, cond}
 use mathlib.Core.Logic.{inr, ⊎-elim}
 use mathlib.Core.List.{List, [], _∷_, _++_, append-nil, append-assoc}
-use native.Mathlib.Nat.{mul-div-cancel, mul-le-mul-right, zero-add}
+use native.Mathlib.Nat.{mul-div-cancel, zero-add}
 use native.Mathlib.Numerals.{add-one}
 use native.Mathlib.Decide.{decLt}
 use native.Mathlib.Omega.{arith}
 use lib.Dec.{leb}
-use lib.ListN.{length, set, take, length-append}
+use lib.ListN.{length, getD, set, take, length-append}
 use lib.Seq.{sets, sets-eq, take-all}
 use borrow.Author.Tests.{le-leb, lt-leb}
 use Rattle.morton.specs.Level.{deepest, limit}
 use Rattle.morton.proofs.Levels.{eight-pos}
 use Rattle.tree.specs.Down.{Nodes}
-use Rattle.vertices.specs.Walk.{placeAt, Spot, inTurn, lowCorner, divided, meets, ending, walked, spotsOf, verticesOf, levelsOf}
+use Rattle.vertices.specs.Walk.{placeAt, Spot, inTurn, lowCorner, divided, meets, walked, spotsOf, verticesOf, levelsOf}
 use Rattle.vertices.specs.Cells.{since, wanted, eight, roundOf, placesOf, Cells, cellsOf, roomOf, CellsSays}
 use Rattle.vertices.specs.Listing.{written}
 use Rattle.vertices.specs.Block.{loweredPlace, Laid, Stored, Took, TakeSays, Skipped}
-use Rattle.vertices.proofs.Blocks.{walked-end, walked-on, walked-stop, ending-one, ending-none, vertices-append, levels-append, vertices-length, levels-length, sets-append}
-use Rattle.vertices.proofs.Law.{corner-add, corner-last}
+use Rattle.vertices.proofs.Blocks.{walk-ind, Each, each-map, each-turn, ending-by, walked-end, walked-on, walked-stop, ending-one, ending-none, vertices-append, levels-append, vertices-length, levels-length, sets-append}
+use Rattle.vertices.proofs.Law.{corner-last, corner-mono}
 use Rattle.vertices.proofs.Spot.{corner-next}
 
 -- ---- what is wanted
@@ -87,16 +87,7 @@ module _ (from : ℕ) where
 
   -- all are less than a number
   abbrev Below : ℕ → List Spot → Type 0
-  Below hi [] = Unit {0}
-  Below hi (s ∷ ss) = (s .vertex < hi) × Below hi ss
-
-  below-append : (hi : ℕ) (ss ts : List Spot) → Below hi ss → Below hi ts → Below hi (ss ++ ts)
-  below-append hi [] ts a b = b
-  below-append hi (s ∷ ss) ts a b = (a .0, below-append hi ss ts (a .1) b)
-
-  below-more : (lo hi : ℕ) (ss : List Spot) → lo ≤ hi → Below lo ss → Below hi ss
-  below-more lo hi [] h a = tt
-  below-more lo hi (s ∷ ss) h a = (omega (arith, a .0), below-more lo hi ss h (a .1))
+  Below hi = Each (λ s. s .vertex < hi)
 
   wanted-below : (ss : List Spot) (hi room : ℕ) → hi ≤ from → Below hi ss → wanted from room ss ≡ []
   unfolding wanted since
@@ -108,48 +99,27 @@ module _ (from : ℕ) where
 
   -- those of a cell are less than the next cell's low corner
   module _ (ks : Nodes) where
-    below-ending : (l c : ℕ) → Below (lowCorner l (c + 1)) (ending ks l c)
-    below-ending l c = go (meets ks l c) refl
-      where
-        go : (r : Bool) → meets ks l c ≡ r → Below (lowCorner l (c + 1)) (ending ks l c)
-        go true e = subst (Below (lowCorner l (c + 1))) (sym (ending-one ks l c e)) (omega (arith, corner-next l c, eight-pos (deepest - l)), tt)
-        go false e = subst (Below (lowCorner l (c + 1))) (sym (ending-none ks l c e)) tt
-
-    below-turn : (g : ℕ → List Spot) (hi n : ℕ) → ((q : ℕ) → q < n → Below hi (g q)) → Below hi (inTurn g n)
-    unfolding inTurn
-    below-turn g hi zero each = tt
-    below-turn g hi (suc n) each = below-append hi (inTurn g n) (g n) (below-turn g hi n (λ q h. each q (omega arith))) (each n (omega arith))
-
-    below-walked : (f l c : ℕ) → l + f ≤ limit → Below (lowCorner l (c + 1)) (walked f ks l c)
-    below-walked zero l c h = go (divided ks l c) refl
-      where
-        go : (r : Bool) → divided ks l c ≡ r → Below (lowCorner l (c + 1)) (walked 0 ks l c)
-        go true e = subst (Below (lowCorner l (c + 1))) (sym (walked-stop ks l c e)) tt
-        go false e = subst (Below (lowCorner l (c + 1))) (sym (walked-end ks l c 0 e)) (below-ending l c)
-    below-walked (suc f) l c h = go (divided ks l c) refl (λ q. below-walked f (suc l) (8 * c + q) (omega arith))
-      where
-        up : (q : ℕ) → q < 8 → lowCorner (suc l) (8 * c + q + 1) ≤ lowCorner l (c + 1)
-        up q hq =
-            omega (
-              arith,
-              corner-last l c (omega arith),
-              corner-add (suc l) (8 * c) 8,
-              corner-add (suc l) (8 * c) (q + 1),
-              ap (lowCorner (suc l)) (same q),
-              mul-le-mul-right {m = q + 1} {n = 8} (8 ^ (deepest - suc l)) (omega arith),
-            )
-          where
-            same : (q : ℕ) → 8 * c + q + 1 ≡ 8 * c + (q + 1)
-            same q = omega arith
-
-        go : (r : Bool) → divided ks l c ≡ r → ((q : ℕ) → Below (lowCorner (suc l) (8 * c + q + 1)) (walked f ks (suc l) (8 * c + q)))
-            → Below (lowCorner l (c + 1)) (walked (suc f) ks l c)
-        go true e each =
-            subst (Below (lowCorner l (c + 1))) (sym (walked-on ks l c f e))
-            (below-turn (λ q. walked f ks (suc l) (8 * c + q)) (lowCorner l (c + 1)) 8 (λ q hq. below-more _ _ (walked f ks (suc l) (8 * c + q)) (up q hq) (each q)))
-        go false e each = subst (Below (lowCorner l (c + 1))) (sym (walked-end ks l c (suc f) e)) (below-ending l c)
+    below-walked : (f l c : ℕ) → l + f ≡ limit → Below (lowCorner l (c + 1)) (walked f ks l c)
+    below-walked f l c h =
+        walk-ind ks (λ l c. Unit {0}) (λ l c. Below (lowCorner l (c + 1))) (λ l c q h a d. tt)
+        (λ l c h a d. ending-by ks l c (Below (lowCorner l (c + 1))) (λ e. (omega (arith, corner-next l c, eight-pos (deepest - l)), tt)) (λ e. tt))
+        (λ l c e a d. tt)
+        (λ l c h g each. each-turn (λ s. s .vertex < lowCorner l (c + 1)) g 8
+        (λ q hq. each-map (λ s k. omega (arith, corner-last l c (omega arith), corner-mono (suc l) (8 * c + q + 1) (8 * c + 8) (omega arith))) (g q) (each q hq)))
+        f l c h tt
 
 -- ---- the tables
+
+pub eight-at : (f : ℕ → ℕ) (i : ℕ) → i < 8 → getD (eight f) i 0 ≡ f i
+eight-at f zero h = refl
+eight-at f (suc zero) h = refl
+eight-at f (suc (suc zero)) h = refl
+eight-at f (suc (suc (suc zero))) h = refl
+eight-at f (suc (suc (suc (suc zero)))) h = refl
+eight-at f (suc (suc (suc (suc (suc zero))))) h = refl
+eight-at f (suc (suc (suc (suc (suc (suc zero)))))) h = refl
+eight-at f (suc (suc (suc (suc (suc (suc (suc zero))))))) h = refl
+eight-at f (suc (suc (suc (suc (suc (suc (suc (suc i)))))))) h = absurd (omega arith)
 
 -- no table changes its length
 abbrev pub SameSize : Cells → Cells → Type 0
@@ -166,19 +136,6 @@ module _ (ks : Nodes) where
   unfolding placesOf roundOf
   places-length [] = refl
   places-length (s ∷ ss) = omega (arith, length-append (roundOf ks s) (placesOf ks ss), places-length ss)
-
-  module _ (s : Spot) (u : List ℕ) (i : ℕ) where
-    one-vertex : sets u i (verticesOf (s ∷ [])) ≡ set u i (s .vertex)
-    unfolding verticesOf
-    one-vertex = refl
-
-    one-level : sets u i (levelsOf (s ∷ [])) ≡ set u i (s .level)
-    unfolding levelsOf
-    one-level = refl
-
-    one-round : sets u i (placesOf ks (s ∷ [])) ≡ sets u i (roundOf ks s)
-    unfolding placesOf
-    one-round = ap (sets u i) (append-nil (roundOf ks s))
 
   module _ (from room : ℕ) where
     stored-not : (ss : List Spot) (at : ℕ) (t : Cells) → wanted from (room - at) ss ≡ [] → Stored ks from room ss at at t t
@@ -301,7 +258,7 @@ module _ (ks : Nodes) where
         pub grown-taken : meets ks (suc l) (8 * c + q) ≡ true → (n r v : ℕ) (at : List ℕ) (mask : ℕ) (t0 t1 : Cells)
             → ((o : ℕ) → o < 8 → loweredPlace at mask q o ≡ placeAt ks (suc l) (8 * c + q) o) → v ≡ lowCorner (l + 1) (8 * c + q) → n < room
             → TakeSays from v (l + 1) n (eight (loweredPlace at mask q)) t0 t1 r → Grown l c q n r t0 t1
-        unfolding the-spot
+        unfolding the-spot verticesOf levelsOf placesOf
         grown-taken m n r v at mask t0 t1 h e hn k = ⊎-elim left right k
           where
             low : v ≡ lowCorner (suc l) (8 * c + q)
@@ -321,9 +278,9 @@ module _ (ks : Nodes) where
                 taken a w =
                     record {
                       count = omega (arith, a .next, ap length w);
-                      vertices-are = λ p q. a .put (omega (arith, a .next)) (omega (arith, a .next)) .0 ∙ ap (set (t0 .vertices) n) low ∙ sym (ap (λ (xs : List Spot). sets (t0 .vertices) n (verticesOf xs)) w ∙ one-vertex the-spot (t0 .vertices) n);
-                      levels-are = λ p q. a .put (omega (arith, a .next)) (omega (arith, a .next)) .1 ∙ ap (set (t0 .levels) n) (add-one l) ∙ sym (ap (λ (xs : List Spot). sets (t0 .levels) n (levelsOf xs)) w ∙ one-level the-spot (t0 .levels) n);
-                      places-are = λ p. a .round (omega (arith, a .next)) ∙ ap (sets (t0 .places) (8 * n)) (round-is at mask h) ∙ sym (ap (λ (xs : List Spot). sets (t0 .places) (8 * n) (placesOf ks xs)) w ∙ one-round the-spot (t0 .places) (8 * n));
+                      vertices-are = λ p q. a .put (omega (arith, a .next)) (omega (arith, a .next)) .0 ∙ ap (set (t0 .vertices) n) low ∙ sym (ap (λ (xs : List Spot). sets (t0 .vertices) n (verticesOf xs)) w);
+                      levels-are = λ p q. a .put (omega (arith, a .next)) (omega (arith, a .next)) .1 ∙ ap (set (t0 .levels) n) (add-one l) ∙ sym (ap (λ (xs : List Spot). sets (t0 .levels) n (levelsOf xs)) w);
+                      places-are = λ p. a .round (omega (arith, a .next)) ∙ ap (sets (t0 .places) (8 * n)) (round-is at mask h) ∙ sym (ap (λ (xs : List Spot). sets (t0 .places) (8 * n) (placesOf ks xs)) w ∙ ap (sets (t0 .places) (8 * n)) (append-nil (roundOf ks the-spot)));
                     }
 
 module _ (ks : Nodes) (from room : ℕ) where

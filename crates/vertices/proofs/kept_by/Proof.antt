@@ -2,7 +2,7 @@
 use mathlib.Core.Path.{sym, ap}
 use borrow.Author.Needs.{needs}
 use Rattle.vertices.specs.Block.{keptBy}
-use Rattle.vertices.proofs.Glance.{last-of-eight}
+use Rattle.vertices.proofs.Glance.{past-four, last-of-eight}
 use Rattle.vertices.proofs.kept_by.Statement.{statement}
 use Rattle.vertices.proofs.kept_by.Tie as tie
 
@@ -28,7 +28,7 @@ returns-7 : tie.Need-returns-7
 returns-7 c = search needs
 
 returns-8 : tie.Need-returns-8
-returns-8 c = sym (ap keptBy (last-of-eight _ (c .before .pre) (c .match .rest .0 .0 .0 .0 .0 .0 .1) (c .match .rest .0 .0 .0 .0 .0 .1) (c .match .rest .0 .0 .0 .0 .1) (c .match .rest .0 .0 .0 .1) (c .match .rest .0 .0 .1) (c .match .rest .0 .1) (c .match .rest .1)))
+returns-8 c = sym (ap keptBy (last-of-eight _ (c .before .pre) (past-four _ (c .match .rest .0 .0 .0 .0 .0 .0 .1) (c .match .rest .0 .0 .0 .0 .0 .1) (c .match .rest .0 .0 .0 .0 .1) (c .match .rest .0 .0 .0 .1)) (c .match .rest .0 .0 .1) (c .match .rest .0 .1) (c .match .rest .1)))
 
 pub kept-by-spec : {M : Type 1} → statement M
 kept-by-spec =
