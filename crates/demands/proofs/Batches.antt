@@ -17,6 +17,7 @@ use Rattle.tree.specs.Climb.{Deepest}
 use Rattle.tree.specs.Down.{Nodes}
 use Rattle.tree.proofs.Finding.{nodes}
 use Rattle.tree.proofs.Lists.{Asc, asc-weaken, asc-at}
+use Rattle.geometry.specs.Grid.{sum}
 use Rattle.geometry.specs.Listing.{Listed}
 use Rattle.geometry.proofs.Place.{OnGrid, side, side-cell, side-on-grid, corner-grid}
 use Rattle.geometry.proofs.Listing.{giver, listed-strict, listed-corner}
@@ -28,7 +29,7 @@ use Rattle.vertices.proofs.Spot.{corner-next}
 use Rattle.vertices.proofs.Law.{corner-add, corner-first, corner-last, spots-listed}
 use Rattle.vertices.proofs.Storing.{places-append, places-length}
 use Rattle.vertices.proofs.Rounds.{cells-right}
-use Rattle.dual.specs.Dual.{sum, triedTo, DualCell}
+use Rattle.dual.specs.Dual.{triedTo, DualCell}
 use Rattle.demands.specs.Batches.{withBatch, Batches, Done, OfFullBatches, OfAllBatches, placesAt, AllCells, OfSoundTreesInBatches}
 use Rattle.demands.specs.Batches.Batches.{begun, full}
 use Rattle.demands.specs.Batches.Done.{done}

@@ -14,7 +14,7 @@ use Rattle.morton.proofs.Levels.{cell-level}
 use Rattle.tree.specs.Tree.{Tree, In, Sound}
 use Rattle.tree.specs.Down.{Nodes}
 use Rattle.tree.specs.Climb.{ancestor, Deepest, triedIn}
-use Rattle.geometry.specs.Grid.{liesIn, Covers}
+use Rattle.geometry.specs.Grid.{sum, liesIn, Covers}
 use Rattle.geometry.specs.Corner.{StrictlyInside}
 use Rattle.geometry.specs.Listing.{Listed}
 use Rattle.tree.proofs.Lists.{in-cast, ascending-place}
@@ -39,7 +39,7 @@ use Rattle.dual.specs.declared.Dual.{Dual}
 use Rattle.dual.specs.declared.Tried.{Tried}
 use Rattle.dual.specs.declared.Tried.the-variants as tried
 use Rattle.dual.specs.declared.Tried.the-variants.{Keys}
-use Rattle.dual.specs.Dual.{DualSays, sum, DualCell, keyIn, distanceIn, lookupAt, Around}
+use Rattle.dual.specs.Dual.{DualSays, DualCell, keyIn, distanceIn, lookupAt, Around}
 use Rattle.dual.proofs.Filling.{around-dual}
 use Rattle.demands.specs.Reading.{Once, LeafCorner, ListsCorners, Answered, HoldsAlone, LeafCell, part, Reading, OfSoundTrees, treeAfter, OfFinishedBuilds}
 use Rattle.demands.proofs.Soundness.{finished-sound, leaves-within, finest-within}

@@ -25,7 +25,8 @@ use Rattle.geometry.proofs.Place.{side-cell, side-on-grid}
 use Rattle.geometry.proofs.Vertex.{inner-strict, inner-grid}
 use Rattle.dual.specs.declared.Tried.{Tried}
 use Rattle.dual.specs.declared.Tried.the-variants.{Keys, Refused}
-use Rattle.dual.specs.Dual.{triedTo, DualCell, DualSays, NoCell, AroundSays, RefusedSays, TrustingSays, keyIn, distanceIn, lookupAt, sum, Around, EntrySays}
+use Rattle.geometry.specs.Grid.{sum}
+use Rattle.dual.specs.Dual.{triedTo, DualCell, DualSays, NoCell, AroundSays, RefusedSays, TrustingSays, keyIn, distanceIn, lookupAt, Around, EntrySays}
 
 -- ---- filling
 

@@ -20,7 +20,8 @@ use Rattle.dual.specs.declared.SlabAnswer.{SlabAnswer}
 use Rattle.dual.specs.declared.Tried.{Tried}
 use Rattle.dual.specs.declared.Tried.the-variants.{Keys, Refused}
 use Rattle.dual.specs.Slab.{slabAnswer}
-use Rattle.dual.specs.Dual.{sum, triedTo, DualCell, NoCell, DualSays, Around, TrustingSays}
+use Rattle.geometry.specs.Grid.{sum}
+use Rattle.dual.specs.Dual.{triedTo, DualCell, NoCell, DualSays, Around, TrustingSays}
 use Rattle.dual.proofs.Filling.{trusting-dual}
 
 -- ---- dual cells

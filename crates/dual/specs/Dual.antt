@@ -1,5 +1,5 @@
 -- What a dual cell is, and what the call answers. Assumes nothing.
-use Prim.Native.Nat.{ℕ, zero, suc, _+_, _-_, _*_, _/_, _^_, _<_}
+use Prim.Native.Nat.{ℕ, _+_, _-_, _*_, _/_, _^_, _<_}
 use mathlib.Core.Path.{_≡_}
 use mathlib.Core.Bool.{true, false}
 use mathlib.Core.Logic.{_⊎_}
@@ -15,13 +15,9 @@ use Rattle.tree.specs.declared.Lookup.the-variants as lookup
 use Rattle.tree.specs.declared.Lookup.the-variants.{Found, Nothing}
 use Rattle.tree.specs.Down.{Nodes, NodeOver}
 use Rattle.tree.specs.Climb.{Deepest, trustingOf, triedIn}
+use Rattle.geometry.specs.Grid.{sum}
 use Rattle.dual.specs.declared.Tried.{Tried}
 use Rattle.dual.specs.declared.Tried.the-variants.{Keys, Refused}
-
--- The sum of f 0, f 1, .., f (n - 1).
-unfoldable pub sum : (ℕ → ℕ) → ℕ → ℕ
-sum f zero = 0
-sum f (suc n) = sum f n + f n
 
 -- How many keys are tried from level L to one that is found.
 abbrev pub triedTo : ℕ → ℕ → ℕ

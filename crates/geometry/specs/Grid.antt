@@ -1,10 +1,15 @@
 -- The finest grid, and what it is for cells to cover it. Assumes nothing.
-use Prim.Native.Nat.{ℕ, _+_, _-_, _/_, _^_, _≤_}
+use Prim.Native.Nat.{ℕ, zero, suc, _+_, _-_, _/_, _^_, _≤_}
 use mathlib.Core.Path.{_≡_}
 use mathlib.Core.Bool.{Bool, cond}
 use mathlib.Core.List.{List, [], _∷_}
 use lib.Dec.{eqb}
 use Rattle.morton.specs.Level.{Cell, level}
+
+-- The sum of f 0, f 1, .., f (n - 1).
+unfoldable pub sum : (ℕ → ℕ) → ℕ → ℕ
+sum f zero = 0
+sum f (suc n) = sum f n + f n
 
 -- The volume of a cell k: how many cells of level D lie in it.
 unfoldable pub volume : ℕ → ℕ → ℕ

@@ -19,13 +19,14 @@ use Rattle.morton.proofs.Vertices.{down-cell}
 use Rattle.tree.specs.Down.{Nodes, firstAt, reach, isSplit, over}
 use Rattle.tree.proofs.Down.{split-steps, steps-in, over-split, over-next, over-le}
 use Rattle.tree.proofs.Lists.{decided}
+use Rattle.geometry.specs.Grid.{sum}
 use Rattle.geometry.specs.Corner.{Corner, StrictlyInside}
 use Rattle.geometry.specs.Near.{near, inCube}
 use Rattle.geometry.proofs.Place.{corner-grid, inner-level}
 use Rattle.geometry.proofs.Middles.{middles, length-middles, corner-up}
 use Rattle.geometry.proofs.Vertex.{point-down}
 use Rattle.geometry.proofs.Offsets.{Within, near-cell, in-cube}
-use Rattle.vertices.specs.Walk.{splitAt, entry, Spot, inTurn, lowCorner, divided, meets, ending, walked, sum, visited, spotsOf, mostOf}
+use Rattle.vertices.specs.Walk.{splitAt, entry, Spot, inTurn, lowCorner, divided, meets, ending, walked, visited, spotsOf, mostOf}
 use Rattle.vertices.proofs.Entries.{entry-in, entry-out, split-deep, split-over}
 use Rattle.vertices.proofs.Blocks.{some-is, walked-end, walked-on, walked-stop, ending-one, ending-none}
 use Rattle.vertices.proofs.Spot.{Meets, corner-next}

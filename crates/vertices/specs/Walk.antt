@@ -4,6 +4,7 @@ use mathlib.Core.Bool.{Bool, true, false, cond, _&&_, _||_}
 use mathlib.Core.List.{List, [], _∷_, _++_}
 use lib.Dec.{leb, ltb}
 use Rattle.morton.specs.Level.{deepest, limit, if₀}
+use Rattle.geometry.specs.Grid.{sum}
 use Rattle.geometry.specs.Near.{near, inCube}
 use Rattle.tree.specs.Down.{Nodes, isSplit, over, placeOver}
 
@@ -66,11 +67,6 @@ walked (suc levels) n l c = cond (divided n l c) (inTurn (λ q. walked levels n 
 -- From the root down to the limit.
 unfoldable pub spotsOf : Nodes → List Spot
 spotsOf n = walked limit n 0 1
-
--- The sum of f 0, f 1, .., f (n - 1).
-unfoldable pub sum : (ℕ → ℕ) → ℕ → ℕ
-sum f zero = 0
-sum f (suc n) = sum f n + f n
 
 -- How many cells the walk goes through from c on, with c itself.
 unfoldable pub visited : ℕ → Nodes → ℕ → ℕ → ℕ
