@@ -146,11 +146,6 @@ pub asc-append : (b c : ℕ) (xs ys : List ℕ) → Asc b xs → ((x : ℕ) → 
 asc-append b c [] ys a u h d = asc-weaken b c ys h d
 asc-append b c (x ∷ xs) ys a u h d = (a .0, asc-append (suc x) c xs ys (a .1) (λ y m. u y (in-tail m)) (u x (in-head refl)) d)
 
--- below c there is room for no more than c - b of them
-pub asc-length : (b c : ℕ) (xs : List ℕ) → b ≤ c → Asc b xs → ((x : ℕ) → In x xs → x < c) → length xs + b ≤ c
-asc-length b c [] h a u = omega arith
-asc-length b c (x ∷ xs) h a u = omega (arith, a .0, asc-length (suc x) c xs (u x (in-head refl)) (a .1) (λ y m. u y (in-tail m)))
-
 -- ---- a member of an ascending list stands at one place, and the members settle the list
 
 pub ascending-place : (xs : List ℕ) → Ascending xs → (i j : ℕ) → i < length xs → j < length xs → getD xs i 0 ≡ getD xs j 0 → i ≡ j

@@ -14,7 +14,7 @@ use Rattle.morton.proofs.Levels.{eight-pos}
 use Rattle.tree.specs.Tree.{In, Ascending, Sound, treeOf}
 use Rattle.tree.specs.Down.{Nodes}
 use Rattle.geometry.specs.Listing.{given, GivenAt, Listed}
-use Rattle.tree.proofs.Lists.{in-at, in-head, in-none, in-one, in-left, in-right, in-append, ascending-asc, asc-at, asc-append, asc-length}
+use Rattle.tree.proofs.Lists.{in-at, in-head, in-none, in-one, in-left, in-right, in-append, ascending-asc, asc-at, asc-append}
 use Rattle.geometry.proofs.Vertex.{vertex-cell}
 use Rattle.vertices.specs.Walk.{splitAt, entry, lowCorner}
 use Rattle.vertices.proofs.Sound.{SoundKeys, Block}
@@ -75,10 +75,6 @@ module _ (ks : Nodes) (lo mid hi : ℕ) (vs ls us ms : List ℕ) (a : Ranged ks 
         from = λ i h. from-of i (side-of i h);
         greatest = λ i k w h leaf hw g. greatest-of i k w (side-of i h) leaf hw g;
       }
-
--- as many as there are numbers
-pub ranged-length : (ks : Nodes) (lo hi : ℕ) (vs ls : List ℕ) → lo ≤ hi → Ranged ks lo hi vs ls → length vs + lo ≤ hi
-ranged-length ks lo hi vs ls h r = asc-length lo hi vs h (ascending-asc lo vs (r .ascending) (λ x m. r .between x m .0)) (λ x m. r .between x m .1)
 
 -- none, where no leaf gives one
 ranged-none : (ks : Nodes) (lo hi : ℕ) → ((k w : ℕ) → Leaf ks k → w < 8 → lo ≤ given k w → given k w < hi → ⊥) → Ranged ks lo hi [] []
