@@ -20,9 +20,9 @@ pub enum ListAnswer {
     Refused(u32),
 }
 
-// The walk goes over the cells from the root down (specs/Walk.antt), and so finds the vertices in order. It carries a cell's eight entries as a block,
-// and a mask of those that are split: bit o is set where entry o has the cell's own level and children. Where none is, the walk ends: the cell's low
-// corner is listed, or nothing is.
+// The walk goes over the cells from the root down (specs/Walk.antt), and so finds the vertices in order. It carries where a cell's eight entries stand,
+// of a split one where its first child does; a mask of those that are split, bit o being set where entry o has the cell's own level and children; and three
+// bits for the axes on which the cell lies at the cube's low side. Where no entry is split, the walk ends: the cell's low corner is listed, or nothing is.
 
 // Whether bit i of a mask is set.
 fn marked(mask: u64, i: usize) -> bool
@@ -406,6 +406,7 @@ fn from_root(
 {
     let first = tree::first_at(firsts, 0);
     if tree::leads(keys, first, 8) {
+        // The root is alone in its block, and at all three sides.
         let at = [first as u32, 0, 0, 0, 0, 0, 0, 0];
         return gather(
             keys,
