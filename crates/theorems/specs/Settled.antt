@@ -112,9 +112,6 @@ distance-one = build.distance-one
 
 -- ---- trees
 
-pub stands-one : (ks : List ℕ) (place k : ℕ) → OnlyOne (λ (r : Bool). Decides r (StandsAt ks place k))
-stands-one = tree.stands-one
-
 pub sound-one : (t : Tree) → OnlyOne (λ (r : Bool). Decides r (Sound t))
 sound-one = tree.sound-one
 
