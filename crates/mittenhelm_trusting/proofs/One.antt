@@ -1,6 +1,5 @@
 -- One answer only: of each exported call, what is returned, every out parameter and every table are settled by its promise. Assumes nothing.
 use Prim.Native.Nat.{ℕ}
-use mathlib.Core.Path.{sym, _∙_}
 use mathlib.Core.List.{List}
 use lib.Ieee.{Float}
 use Rattle.morton.proofs.One.{OnlyOne, handed-on}

@@ -19,7 +19,7 @@ use Rattle.floats.proofs.Patterns.{PatternOf}
 use Rattle.floats.proofs.One as floats
 use Rattle.tree.specs.declared.Lookup.{Lookup}
 use Rattle.tree.specs.declared.Node.{Node}
-use Rattle.tree.specs.Tree.{Tree, StandsAt, Sound, Decides}
+use Rattle.tree.specs.Tree.{Tree, Sound, Decides}
 use Rattle.tree.specs.Down.{Nodes, leads, NodeSays}
 use Rattle.tree.specs.Climb.{LookupSays, distanceAt, trustingOf}
 use Rattle.tree.proofs.One as tree
