@@ -1,19 +1,18 @@
 -- Lookups in a tree: nothing present lies below a leaf, so the deepest present ancestor of a cell in a leaf is that leaf. Assumes nothing.
 use Prim.Native.Nat.{ℕ, zero, suc, _+_, _-_, _/_, _%_, _^_, _≤_, _<_}
-use mathlib.Core.Path.{_≡_, refl, sym, _∙_, ap}
+use mathlib.Core.Path.{_≡_, sym, _∙_, ap}
 use mathlib.Core.Logic.{⊎-elim}
 use mathlib.Core.List.{List}
 use native.Mathlib.Nat.{zero-div}
 use native.Mathlib.Decide.{decLt}
 use native.Mathlib.Omega.{arith}
-use lib.Ieee.{Float, nan}
-use lib.ListN.{getD}
+use lib.Ieee.{Float}
 use Rattle.morton.specs.Level.{level, Cell}
 use Rattle.morton.proofs.Levels.{cell-lead}
 use Rattle.morton.proofs.Fields.{div-step}
 use Rattle.tree.specs.Tree.{Tree, In}
 use Rattle.tree.specs.Climb.{ancestor, NoneDeeper, Deepest}
-use Rattle.tree.proofs.Lists.{stands-in, in-stands, in-cast}
+use Rattle.tree.proofs.Lists.{stands-in, in-cast}
 use Rattle.geometry.proofs.Place.{up-up}
 use Rattle.geometry.proofs.Shape.{Shape, child-is, positive}
 
@@ -36,28 +35,14 @@ module _ (D : ℕ) (ns ls : List ℕ) (t : Shape D ns ls) (k : ℕ) (leaf : In k
       let u : L - j + suc d ≡ L - level k = omega arith in
       no-node d (s / 8 ^ (L - j)) i (up-up s (L - j) (suc d) ∙ ap (λ (n : ℕ). s / 8 ^ n) u ∙ e)
 
--- ---- so a cell in the leaf finds it
+-- ---- so a cell in the leaf finds it, and nothing else
 
 module _ (D : ℕ) (t : Tree) (s : Shape D (t .keys) (t .leaves)) (k : ℕ) (leaf : In k (t .leaves)) (asked : ℕ) (pos : 1 ≤ level k) (h : level k ≤ level asked)
     (e : ancestor asked (level k) ≡ k) where
   none-deeper-leaf : NoneDeeper t asked (level k)
   none-deeper-leaf = none-between D (t .keys) (t .leaves) s k leaf (level asked) asked h e
 
-  pub leaf-found : Deepest t asked k (getD (t .distances) (s .here k leaf .place) nan) (level asked - level k + 1)
-  leaf-found =
-      record {
-        not-root = pos;
-        not-below = h;
-        is-ancestor = sym e;
-        place = s .here k leaf .place;
-        present = in-stands (s .here k leaf);
-        its-distance = refl;
-        none-deeper = none-deeper-leaf;
-        count = refl;
-      }
-
-  -- and nothing else
-  pub found-leaf : {key : ℕ} {distance : Float} {tried : ℕ} → Deepest t asked key distance tried → key ≡ k
+  pub found-leaf : {key : ℕ} {distance : Float} {place tried : ℕ} → Deepest t asked key distance place tried → key ≡ k
   found-leaf {key} d = go (decLt (level key) (level k)) (decLt (level k) (level key))
     where
       same : level key ≡ level k → key ≡ k

@@ -120,10 +120,29 @@ module _ (n : Nodes) where
       chosen (λ m. 8 ^ suc l ≤ m → m ≡ x) (isSplit n l (x / 8)) (λ e h. refl)
       (λ e h. absurd (omega (arith, over-le l (x / 8), c .high, pow-suc 8 l, eight-pos l)))
 
+  -- where it is the root, its place is the root's
+  pub root-place : (l x : ℕ) → Cell l x → over n l x < 8 → placeOver n l x ≡ 0
+  unfolding placeOver
+  root-place zero x c h = refl
+  root-place (suc l) x c h =
+      let up : Cell l (x / 8) = record { low = omega (arith, c .low, pow-suc 8 l); high = omega (arith, c .high, pow-suc 8 l) } in
+      chosen (λ p. p ≡ 0) (isSplit n l (x / 8)) (λ e. absurd (omega (arith, over-next l x e, c .low, pow-suc 8 l, eight-pos l)))
+      (λ e. root-place l (x / 8) up (omega (arith, over-next l x e)))
+
   -- where a step leads to
   pub steps-in : (p k : ℕ) → steps n p k ≡ true → (firstAt n p % 8 ≡ 1) × (firstAt n p + 7 < length (n .keys)) × (getD (n .keys) (firstAt n p) 0 ≡ 8 * k)
   unfolding steps
   steps-in p k e = leads-in (n .keys) (firstAt n p) (8 * k) e
+
+  -- where it isn't the root, its place lies inside, and not where the root's is
+  pub over-place : (l x : ℕ) → Cell l x → 8 ≤ over n l x → (0 < placeOver n l x) × (placeOver n l x < length (n .keys))
+  unfolding over placeOver
+  over-place zero x c h = absurd (omega (arith, c .high))
+  over-place (suc l) x c h =
+      let up : Cell l (x / 8) = record { low = omega (arith, c .low, pow-suc 8 l); high = omega (arith, c .high, pow-suc 8 l) } in
+      chosen (λ p. (0 < p) × (p < length (n .keys))) (isSplit n l (x / 8))
+      (λ e. let s = steps-in (reach n l (x / 8)) (x / 8) (split-steps l (x / 8) e) in (omega (arith, reach-down l x, s .0), omega (arith, reach-down l x, s .1)))
+      (λ e. over-place l (x / 8) up (omega (arith, over-next l x e)))
 
   -- every place that is handed out lies inside, or is the root's
   pub place-inside : (l x : ℕ) → (placeOver n l x ≡ 0) ⊎ (placeOver n l x < length (n .keys))

@@ -185,19 +185,23 @@ module _ (n : Nodes) (ds : List Float) (k l place : ℕ) (c : Cell (level k) k) 
   node-level : level (over n (level k) k) ≡ l
   node-level = cell-level l (over n (level k) k) (omega (arith, v .no-deeper, level-le k)) node-cell
 
+  -- what is found, in the words of the definition
+  abbrev there : Lookup
+  there = Found (over n (level k) k) (distanceAt ds (placeOver n (level k) k)) (placeOver n (level k) k) (level k - level (over n (level k) k) + 1)
+
   pub down-nothing : l ≡ 0 → Nothing (level k) ≡ downOf n ds k
   unfolding downOf
   down-nothing z =
       let h : over n (level k) k < 8 = omega (arith, node-cell .high, ap (λ (m : ℕ). 8 ^ m) z) in
-      sym (ap (λ (r : Bool). cond r (Found (over n (level k) k) (distanceAt ds (placeOver n (level k) k)) (level k - level (over n (level k) k) + 1)) (Nothing (level k))) (lt-leb 8 _ h))
+      sym (ap (λ (r : Bool). cond r there (Nothing (level k))) (lt-leb 8 _ h))
 
-  pub down-found : 0 < l → (key : ℕ) (d : Float) → key ≡ k / 8 ^ (level k - l) → d ≡ distanceAt ds place → Found key d (level k - l + 1) ≡ downOf n ds k
+  pub down-found : 0 < l → (key : ℕ) (d : Float) → key ≡ k / 8 ^ (level k - l) → d ≡ distanceAt ds place → Found key d place (level k - l + 1) ≡ downOf n ds k
   unfolding downOf
   down-found p key d e f =
       let h : 8 ≤ over n (level k) k = omega (arith, node-cell .low, eight-mono {i = 1} {j = l} p) in
-      ap₂ (λ (x : ℕ) (y : Float). Found x y (level k - l + 1)) (e ∙ sym (v .is)) (f ∙ ap (distanceAt ds) (sym (v .at)))
-      ∙ ap (λ (m : ℕ). Found (over n (level k) k) (distanceAt ds (placeOver n (level k) k)) (level k - m + 1)) (sym node-level)
-      ∙ sym (ap (λ (r : Bool). cond r (Found (over n (level k) k) (distanceAt ds (placeOver n (level k) k)) (level k - level (over n (level k) k) + 1)) (Nothing (level k))) (le-leb 8 _ h))
+      ap₂ (λ (x : ℕ) (y : Float). Found x y place (level k - l + 1)) (e ∙ sym (v .is)) (f ∙ ap (distanceAt ds) (sym (v .at)))
+      ∙ ap₂ (λ (x m : ℕ). Found (over n (level k) k) (distanceAt ds (placeOver n (level k) k)) x (level k - m + 1)) (sym (v .at)) (sym node-level)
+      ∙ sym (ap (λ (r : Bool). cond r there (Nothing (level k))) (le-leb 8 _ h))
 
 -- what trusts the tree, where it is or isn't a cell key
 module _ (n : Nodes) (ds : List Float) (k : ℕ) where
@@ -215,9 +219,9 @@ module _ (n : Nodes) (ds : List Float) (k L l place : ℕ) (c : isCell k ≡ tru
   pub nothing-at : l ≡ 0 → Nothing L ≡ trustingOf n ds k
   nothing-at z = ap Nothing e ∙ down-nothing n ds k l place (is-cell k c) own z ∙ trusting-down n ds k c
 
-  pub found-at : 0 < l → (key : ℕ) (d : Float) → key ≡ k / 8 ^ (L - l) → d ≡ distanceAt ds place → Found key d (L - l + 1) ≡ trustingOf n ds k
+  pub found-at : 0 < l → (key : ℕ) (d : Float) → key ≡ k / 8 ^ (L - l) → d ≡ distanceAt ds place → Found key d place (L - l + 1) ≡ trustingOf n ds k
   found-at p key d f g =
-      ap (λ (m : ℕ). Found key d (m - l + 1)) e
+      ap (λ (m : ℕ). Found key d place (m - l + 1)) e
       ∙ down-found n ds k l place (is-cell k c) own p key d (f ∙ ap (λ (m : ℕ). k / 8 ^ (m - l)) e) g
       ∙ trusting-down n ds k c
 
@@ -312,7 +316,6 @@ module _ (t : Tree) (S : Sound t) where
               not-root = omega (arith, lev-is);
               not-below = omega (arith, lev-is, v .no-deeper);
               is-ancestor = v .is ∙ ap (λ (m : ℕ). asked / 8 ^ (level asked - m)) (sym lev-is);
-              place = placeOver (nodes t) (level asked) asked;
               present = v .stands;
               its-distance = getD-inside (t .distances) (placeOver (nodes t) (level asked) asked) _ nan (omega (arith, v .stands .inside, S .as-many));
               none-deeper = λ j a b m. v .none j (omega (arith, lev-is)) b m;
@@ -328,7 +331,7 @@ trusting-lookup t S asked =
 
 -- at most 21 keys are tried
 pub tried-most : (t : Tree) (asked : ℕ) (r : Lookup) → LookupSays t asked r → triedIn r ≤ deepest
-tried-most t asked (Found key distance tried) (_, _, d) = omega (arith, d .count, d .not-root, level-le asked)
+tried-most t asked (Found key distance place tried) (_, _, d) = omega (arith, d .count, d .not-root, level-le asked)
 tried-most t asked (Nothing tried) (_, _, _, e) = omega (arith, level-le asked)
 tried-most t asked (Refused n) s = omega arith
 
