@@ -30,35 +30,35 @@ use Rattle.dual.specs.Dual.{lookupAt, EntrySays, EntryFor}
 -- ---- the ways, one after another
 
 -- of the first n sides, for each that is lower on no axis on which q is odd: the node over the first of the eight cells that it is one of, by level and place
-pub record Told (ns : Nodes) (L q n : ℕ) (levels places : List ℕ) : Type 0 where
+pub record Told (ns : Nodes) (L q n : ℕ) (levels ends : List ℕ) : Type 0 where
   pub eight-levels : length levels ≡ 8
-  pub eight-places : length places ≡ 8
-  pub way : (j : ℕ) → j < n → bitAnd j (q % 8) ≡ 0 → NodeSays ns L (8 * (sub q j / 8)) (getD levels j 0) (getD places j 0)
+  pub eight-ends : length ends ≡ 8
+  pub way : (j : ℕ) → j < n → bitAnd j (q % 8) ≡ 0 → NodeSays ns L (8 * (sub q j / 8)) (getD levels j 0) (getD ends j 0)
 
 module _ (ns : Nodes) (L q : ℕ) where
-  pub told-none : (levels places : List ℕ) → length levels ≡ 8 → length places ≡ 8 → Told ns L q 0 levels places
-  told-none levels places l p = record { eight-levels = l; eight-places = p; way = λ j h. absurd (omega arith) }
+  pub told-none : (levels ends : List ℕ) → length levels ≡ 8 → length ends ≡ 8 → Told ns L q 0 levels ends
+  told-none levels ends l p = record { eight-levels = l; eight-ends = p; way = λ j h. absurd (omega arith) }
 
-  pub told-more : (n : ℕ) (levels places : List ℕ) (side l p : ℕ) → n < 8 → Told ns L q n levels places → side ≡ sub q n → NodeSays ns L (8 * (side / 8)) l p
-      → Told ns L q (n + 1) (set levels n l) (set places n p)
-  told-more n levels places side l p h t is s =
+  pub told-more : (n : ℕ) (levels ends : List ℕ) (side l p : ℕ) → n < 8 → Told ns L q n levels ends → side ≡ sub q n → NodeSays ns L (8 * (side / 8)) l p
+      → Told ns L q (n + 1) (set levels n l) (set ends n p)
+  told-more n levels ends side l p h t is s =
       record {
         eight-levels = length-set levels n l ∙ t .eight-levels;
-        eight-places = length-set places n p ∙ t .eight-places;
+        eight-ends = length-set ends n p ∙ t .eight-ends;
         way = λ j g e. elim (decLt j n) [
           | yes k ↦ let o : j ≡ n → ⊥ = λ z. omega arith in
-              rw (getD-set-other levels n j l 0 o, getD-set-other places n j p 0 o) (t .way j k e)
+              rw (getD-set-other levels n j l 0 o, getD-set-other ends n j p 0 o) (t .way j k e)
           | no k ↦ let z : n ≡ j = omega arith in
-              subst (λ (i : ℕ). NodeSays ns L (8 * (sub q i / 8)) (getD (set levels n l) i 0) (getD (set places n p) i 0)) z
-              (rw (getD-set-same levels n l 0 (omega (arith, t .eight-levels)), getD-set-same places n p 0 (omega (arith, t .eight-places)), ← is) s)
+              subst (λ (i : ℕ). NodeSays ns L (8 * (sub q i / 8)) (getD (set levels n l) i 0) (getD (set ends n p) i 0)) z
+              (rw (getD-set-same levels n l 0 (omega (arith, t .eight-levels)), getD-set-same ends n p 0 (omega (arith, t .eight-ends)), ← is) s)
         ];
       }
 
-  pub told-skip : (n : ℕ) (levels places : List ℕ) → (bitAnd n (q % 8) ≡ 0 → ⊥) → Told ns L q n levels places → Told ns L q (n + 1) levels places
-  told-skip n levels places f t =
+  pub told-skip : (n : ℕ) (levels ends : List ℕ) → (bitAnd n (q % 8) ≡ 0 → ⊥) → Told ns L q n levels ends → Told ns L q (n + 1) levels ends
+  told-skip n levels ends f t =
       record {
         eight-levels = t .eight-levels;
-        eight-places = t .eight-places;
+        eight-ends = t .eight-ends;
         way = λ j g e. elim (decLt j n) [
           | yes k ↦ t .way j k e
           | no k ↦ let z : j ≡ n = omega arith in absurd (f (subst (λ (i : ℕ). bitAnd i (q % 8) ≡ 0) z e))
@@ -86,23 +86,23 @@ module _ (ds : List Float) (L x l place : ℕ) (h : L ≤ 20) (c : Cell L x) whe
   says : (ns : Nodes) (p : ℕ) → NodeOver ns L x l p → NodeSays ns L x l p
   says ns p v = inl (omega arith, v)
 
-  pub entry-nothing : 1 ≤ L → l ≡ 0 → EntryFor ds L x l place 0 (ofBits binary32 0) L
+  pub entry-nothing : 1 ≤ L → l ≡ 0 → EntryFor ds L x l place 0 (ofBits binary32 0) 0 L
   entry-nothing h1 z ns v =
-      subst (λ (r : Lookup). EntrySays r 0 (ofBits binary32 0) L) (nothing-at ns ds x L l place cell own (says ns place (one ns x l place L (omega arith) v)) z)
-      (record { its-key = refl; its-distance = refl; its-tried = refl })
+      subst (λ (r : Lookup). EntrySays r 0 (ofBits binary32 0) 0 L) (nothing-at ns ds x L l place cell own (says ns place (one ns x l place L (omega arith) v)) z)
+      (record { its-key = refl; its-distance = refl; its-place = refl; its-tried = refl })
 
   found : (ns : Nodes) (p k : ℕ) (d : Float) (m : ℕ) → 0 < l → NodeOver ns L x l p → k ≡ x / 8 ^ (L - l) → d ≡ distanceAt ds p → m ≡ L - l + 1
-      → EntrySays (trustingOf ns ds x) k d m
+      → EntrySays (trustingOf ns ds x) k d p m
   found ns p k d m pos v e f g =
-      subst (λ (r : Lookup). EntrySays r k d m) (found-at ns ds x L l p cell own (says ns p v) pos k d e f)
-      (record { its-key = refl; its-distance = refl; its-tried = g })
+      subst (λ (r : Lookup). EntrySays r k d p m) (found-at ns ds x L l p cell own (says ns p v) pos k d e f)
+      (record { its-key = refl; its-distance = refl; its-place = refl; its-tried = g })
 
-  pub entry-row : 0 < l → l ≡ L → (d : Float) → d ≡ distanceAt ds (place + x % 8) → EntryFor ds L x l place x d 1
+  pub entry-row : 0 < l → l ≡ L → (d : Float) → d ≡ distanceAt ds (place + x % 8) → EntryFor ds L x l place x d (place + x % 8) 1
   entry-row pos e d f ns v =
       let z : L - l ≡ 0 = omega arith in
       found ns (place + x % 8) x d 1 pos (row ns x l place L (omega arith) e v) (sym (ap (λ (m : ℕ). x / 8 ^ m) z ∙ div-one x)) f (omega arith)
 
-  pub entry-one : 0 < l → l < L → (k : ℕ) (d : Float) → k ≡ x / 8 ^ (L - l) → d ≡ distanceAt ds place → EntryFor ds L x l place k d (L - l + 1)
+  pub entry-one : 0 < l → l < L → (k : ℕ) (d : Float) → k ≡ x / 8 ^ (L - l) → d ≡ distanceAt ds place → EntryFor ds L x l place k d place (L - l + 1)
   entry-one pos g k d e f ns v = found ns place k d (L - l + 1) pos (one ns x l place L g v) e f refl
 
 -- ---- which sides share a way
@@ -160,18 +160,19 @@ module _ (L q : ℕ) (h1 : 1 ≤ L) (h : L ≤ 20) (e : isInside L q ≡ true) w
       subst (λ (m : ℕ). sub m (bitAnd i (7 - q % 8)) / 8 ≡ sub m i / 8) digits (child-shares (L - 1) (q / 8) (q % 8) (omega arith) (omega arith) inside i g)
 
   -- so the way that is kept serves side i
-  module _ (ns : Nodes) (n : ℕ) (levels places : List ℕ) (all : 8 ≤ n) (w : Told ns L q n levels places) (i : ℕ) (g : i < 8) (side : ℕ) (is : side ≡ sub q i) where
+  module _ (ns : Nodes) (n : ℕ) (levels ends : List ℕ) (all : 8 ≤ n) (w : Told ns L q n levels ends) (i : ℕ) (g : i < 8) (side : ℕ) (is : side ≡ sub q i) where
     abbrev kept : ℕ
     kept = bitAnd i (7 - q % 8)
 
-    way-over : NodeOver ns L (8 * (side / 8)) (getD levels kept 0) (getD places kept 0)
+    way-over : NodeOver ns L (8 * (side / 8)) (getD levels kept 0) (getD ends kept 0)
     way-over =
-        subst (λ (m : ℕ). NodeOver ns L (8 * m) (getD levels kept 0) (getD places kept 0)) (shares i g ∙ ap (λ (x : ℕ). x / 8) (sym is))
+        subst (λ (m : ℕ). NodeOver ns L (8 * m) (getD levels kept 0) (getD ends kept 0)) (shares i g ∙ ap (λ (x : ℕ). x / 8) (sym is))
         (says-over ns L _ _ _ (omega arith) (w .way kept (omega (arith, kept-lt i (q % 8) g)) (kept-none i (q % 8) g (omega arith))))
 
-    pub way-ready : length (ns .keys) ≤ 2 ^ 62 → (1 ≤ L) × (L ≤ 20) × (getD levels kept 0 ≤ L) × (getD places kept 0 ≤ 2 ^ 62) × Cell L side
+    pub way-ready : length (ns .keys) ≤ 2 ^ 62 → (1 ≤ L) × (L ≤ 20) × (getD levels kept 0 ≤ L) × (getD ends kept 0 ≤ 2 ^ 62) × Cell L side
     way-ready few =
         (h1, h, way-over .no-deeper, omega (arith, way-over .at, place-le ns L (8 * (side / 8))), subst (Cell L) (sym is) (side-in i g))
 
-    pub way-entry : (ds : List Float) (k : ℕ) (d : Float) (m : ℕ) → EntryFor ds L side (getD levels kept 0) (getD places kept 0) k d m → EntrySays (lookupAt ns ds q i) k d m
-    way-entry ds k d m f = subst (λ (x : ℕ). EntrySays (trustingOf ns ds x) k d m) is (f ns way-over)
+    pub way-entry : (ds : List Float) (k : ℕ) (d : Float) (p m : ℕ) → EntryFor ds L side (getD levels kept 0) (getD ends kept 0) k d p m
+        → EntrySays (lookupAt ns ds q i) k d p m
+    way-entry ds k d p m f = subst (λ (x : ℕ). EntrySays (trustingOf ns ds x) k d p m) is (f ns way-over)

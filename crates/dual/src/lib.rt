@@ -18,11 +18,12 @@ pub enum Tried {
     Refused(u32),
 }
 
-// A dual cell in corner order.
+// A dual cell in corner order: entry w is the cell that has the vertex at its corner w.
 pub struct Dual {
     pub tried: Tried,
     pub keys: [u64; 8],
     pub distances: [f32; 8],
+    pub places: [usize; 8],
 }
 
 // The slab's number, from 0 on, or the number of the refusal.
@@ -35,6 +36,7 @@ pub enum SlabAnswer {
 struct Entry {
     key: u64,
     distance: f32,
+    place: usize,
     tried: u32,
 }
 
@@ -47,28 +49,32 @@ fn side(middle: u64, i: usize) -> u64
     key.code
 }
 
-// The entry for a side, from the node over its parent's first child: beside that, if it is the child itself, else the same node. 0 and 0 where that is the root.
-fn entry_for(distances: &[f32], side: u64, level: u32, at: u32, place: usize) -> Entry
-    requires { ⌜ (1 ≤ level) × (level ≤ 20) × (at ≤ level) × (place ≤ 2 ^ 62) × Cell level side ⌝ }
-    ensures { λ r. ⌜ EntryFor (now (distances .entry)) level side at place (r .key) (r .distance) (r .tried) × (r .tried ≤ deepest) ⌝ }
+// The entry for a side, from the node over its parent's first child: beside that, if it is the child itself, else the same node. 0, 0 and 0 where that is the root.
+fn entry_for(distances: &[f32], side: u64, level: u32, at: u32, first: usize) -> Entry
+    requires { ⌜ (1 ≤ level) × (level ≤ 20) × (at ≤ level) × (first ≤ 2 ^ 62) × Cell level side ⌝ }
+    ensures { λ r. ⌜ EntryFor (now (distances .entry)) level side at first (r .key) (r .distance) (r .place) (r .tried) × (r .tried ≤ deepest) ⌝ }
 {
     if at == 0 {
         return Entry {
             key: 0,
             distance: 0.0,
+            place: 0,
             tried: level,
         };
     }
     if at == level {
+        let place = first + (side % 8) as usize;
         return Entry {
             key: side,
-            distance: tree::distance_at(distances, place + (side % 8) as usize),
+            distance: tree::distance_at(distances, place),
+            place: place,
             tried: 1,
         };
     }
     Entry {
         key: side >> (3 * (level - at)),
-        distance: tree::distance_at(distances, place),
+        distance: tree::distance_at(distances, first),
+        place: first,
         tried: level - at + 1,
     }
 }
@@ -78,17 +84,17 @@ fn entry_for(distances: &[f32], side: u64, level: u32, at: u32, place: usize) ->
 // since an array that is handed on is copied.
 fn around(keys: &[u64], distances: &[f32], firsts: &[u16], middle: u64, level: u32) -> Dual
     requires { ⌜ (1 ≤ level) × (level ≤ 20) × (isInside level middle ≡ true) ⌝ }
-    ensures { λ r. ⌜ AroundSays (nodesOf (now (keys .entry)) (now (firsts .entry))) (now (distances .entry)) middle (r .keys) (r .distances) (r .tried) ⌝ }
+    ensures { λ r. ⌜ AroundSays (nodesOf (now (keys .entry)) (now (firsts .entry))) (now (distances .entry)) middle (r .keys) (r .distances) (r .places) (r .tried) ⌝ }
 {
     let odd = (middle % 8) as usize;
     let mut levels = [0u32; 8];
-    let mut places = [0usize; 8];
+    let mut ends = [0usize; 8];
     let mut j: usize = 0;
     while j < 8 {
         if j & odd == 0 {
             let node = tree::go_down(keys, firsts, level, 8 * (side(middle, j) / 8));
             levels[j] = node.level;
-            places[j] = node.place;
+            ends[j] = node.place;
             j += 1;
         } else {
             j += 1;
@@ -97,19 +103,15 @@ fn around(keys: &[u64], distances: &[f32], firsts: &[u16], middle: u64, level: u
     let even = 7 - odd;
     let mut found = [0u64; 8];
     let mut theirs = [0.0f32; 8];
+    let mut places = [0usize; 8];
     let mut tried: u32 = 0;
     let mut i: usize = 0;
     while i < 8 {
         let kept = i & even;
-        let e = entry_for(
-            distances,
-            side(middle, i),
-            level,
-            levels[kept],
-            places[kept],
-        );
+        let e = entry_for(distances, side(middle, i), level, levels[kept], ends[kept]);
         found[i] = e.key;
         theirs[i] = e.distance;
+        places[i] = e.place;
         tried += e.tried;
         i += 1;
     }
@@ -117,17 +119,19 @@ fn around(keys: &[u64], distances: &[f32], firsts: &[u16], middle: u64, level: u
         tried: Tried::Keys(tried),
         keys: found,
         distances: theirs,
+        places: places,
     }
 }
 
 // A refusal hands back empty arrays.
 fn refused(number: u32) -> Dual
-    ensures { λ r. ⌜ RefusedSays number (r .keys) (r .distances) (r .tried) ⌝ }
+    ensures { λ r. ⌜ RefusedSays number (r .keys) (r .distances) (r .places) (r .tried) ⌝ }
 {
     Dual {
         tried: Tried::Refused(number),
         keys: [0u64; 8],
         distances: [0.0f32; 8],
+        places: [0usize; 8],
     }
 }
 
@@ -140,7 +144,7 @@ pub fn dual_cell_trusting(
     vertex: u64,
     level: u32,
 ) -> Dual
-    ensures { λ r. ⌜ TrustingSays (nodesOf (now (keys .entry)) (now (firsts .entry))) (now (distances .entry)) level vertex (r .keys) (r .distances) (r .tried) ⌝ }
+    ensures { λ r. ⌜ TrustingSays (nodesOf (now (keys .entry)) (now (firsts .entry))) (now (distances .entry)) level vertex (r .keys) (r .distances) (r .places) (r .tried) ⌝ }
 {
     let v = Key { code: vertex };
     if !v.is_inner(level) {
@@ -162,7 +166,7 @@ pub fn dual_cell(
     level: u32,
 ) -> Dual
     ensures { λ r. ⌜
-        DualSays (treeOf (now (keys .entry)) (now (distances .entry)) (now (firsts .entry)) (now (leaves .entry))) level vertex (r .keys) (r .distances) (r .tried) ⌝ }
+        DualSays (treeOf (now (keys .entry)) (now (distances .entry)) (now (firsts .entry)) (now (leaves .entry))) level vertex (r .keys) (r .distances) (r .places) (r .tried) ⌝ }
 {
     if !tree::sound(keys, distances, firsts, leaves) {
         return refused(11);

@@ -12,7 +12,7 @@ use borrow.Author.Tests.{leb-true, le-leb, lt-leb}
 use Rattle.morton.specs.Level.{if₀, Cell}
 use Rattle.morton.proofs.Levels.{and-true, eight-pos}
 use Rattle.tree.specs.Down.{Nodes, firstAt, steps, reach, isSplit, over, placeOver}
-use Rattle.tree.proofs.Down.{split-below, reach-down, over-next, place-next, over-split, place-split, over-le, over-pos, over-same, place-inside, place-near}
+use Rattle.tree.proofs.Down.{split-below, reach-down, over-next, place-next, over-split, place-split, over-le, over-pos, over-same, place-near}
 use Rattle.tree.proofs.Lists.{decided, unless}
 use Rattle.geometry.specs.Near.{near, inCube}
 use Rattle.vertices.specs.Walk.{splitAt, entry, placeAt}
@@ -78,15 +78,6 @@ module _ (ks : Nodes) where
     entry-lt =
         decided (inCube l c o) (λ e. omega (arith, entry-in e, over-le ks l (near l c o), near-cell l c o .high))
         (λ e. omega (arith, entry-out e, eight-pos l))
-
-  -- every place that is handed out lies inside, or is 0
-  pub places-inside : (l c o : ℕ) → (placeAt ks l c o ≡ 0) ⊎ (placeAt ks l c o < length (ks .keys))
-  unfolding placeAt
-  places-inside l c o = go (inCube l c o)
-    where
-      go : (r : Bool) → (if₀ r (placeOver ks l (near l c o)) 0 ≡ 0) ⊎ (if₀ r (placeOver ks l (near l c o)) 0 < length (ks .keys))
-      go true = place-inside ks l (near l c o)
-      go false = inl refl
 
   -- a place is that of a first child, or of one of the eight from there on
   pub place-most : ((i : ℕ) → getD (ks .firsts) i 0 < 2 ^ 16) → (l c o : ℕ) → placeAt ks l c o < 2 ^ 16 + 7

@@ -116,10 +116,6 @@ module _ (ks : Nodes) where
               (t .sound .children (over ks l x) (stands-in (v .stands)));
         }
 
-    -- and it stands where the way down leads
-    pub place-stands : (l x : ℕ) → Cell l x → StandsAt (ks .keys) (placeOver ks l x) (over ks l x)
-    place-stands l x c = finding.over-is (treeOf (ks .keys) (t .distances) (ks .firsts) (t .leaves)) (t .sound) l x c .stands
-
     pub block-of : (l c : ℕ) → Fresh ks l c → Block ks l c
     block-of l c fresh =
         record {

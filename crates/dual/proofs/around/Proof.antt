@@ -13,16 +13,17 @@ use Rattle.dual.proofs.around.Statement.{statement}
 use Rattle.dual.proofs.around.Tie as tie
 
 abbrev Inv-loop : tie.InvT-loop
-Inv-loop keys distances firsts middle level odd levels₀ places₀ j₀ levels places j = (j ≤ 8) × Told (nodesOf keys firsts) level middle j levels places
+Inv-loop keys distances firsts middle level odd levels₀ ends₀ j₀ levels ends j = (j ≤ 8) × Told (nodesOf keys firsts) level middle j levels ends
 
 abbrev μ-loop : tie.MeasureT-loop
-μ-loop keys distances firsts middle level odd levels₀ places₀ j₀ levels places j = 8 - j
+μ-loop keys distances firsts middle level odd levels₀ ends₀ j₀ levels ends j = 8 - j
 
 abbrev Inv-loop2 : tie.InvT-loop2
-Inv-loop2 keys distances firsts middle level odd levels places j even found₀ theirs₀ tried₀ i₀ found theirs tried i = (i ≤ 8) × (tried ≤ deepest * i) × Filled (nodesOf keys firsts) distances middle i found theirs tried
+Inv-loop2 keys distances firsts middle level odd levels ends j even found₀ theirs₀ places₀ tried₀ i₀ found theirs places tried i =
+    (i ≤ 8) × (tried ≤ deepest * i) × Filled (nodesOf keys firsts) distances middle i found theirs places tried
 
 abbrev μ-loop2 : tie.MeasureT-loop2
-μ-loop2 keys distances firsts middle level odd levels places j even found₀ theirs₀ tried₀ i₀ found theirs tried i = 8 - i
+μ-loop2 keys distances firsts middle level odd levels ends j even found₀ theirs₀ places₀ tried₀ i₀ found theirs places tried i = 8 - i
 
 loop-holds : tie.Need-loop-holds Inv-loop μ-loop Inv-loop2 μ-loop2
 loop-holds c = (omega arith, told-none _ _ _ _ _ refl refl)
@@ -42,11 +43,11 @@ mul-levels c = search needs
 array-write-levels : tie.Need-array-write-levels Inv-loop μ-loop Inv-loop2 μ-loop2
 array-write-levels c = search needs
 
-mul-places : tie.Need-mul-places Inv-loop μ-loop Inv-loop2 μ-loop2
-mul-places c = search needs
+mul-ends : tie.Need-mul-ends Inv-loop μ-loop Inv-loop2 μ-loop2
+mul-ends c = search needs
 
-array-write-places : tie.Need-array-write-places Inv-loop μ-loop Inv-loop2 μ-loop2
-array-write-places c = search needs
+array-write-ends : tie.Need-array-write-ends Inv-loop μ-loop Inv-loop2 μ-loop2
+array-write-ends c = search needs
 
 add-j : tie.Need-add-j Inv-loop μ-loop Inv-loop2 μ-loop2
 add-j c = search needs
@@ -70,7 +71,7 @@ sub-even : tie.Need-sub-even Inv-loop μ-loop Inv-loop2 μ-loop2
 sub-even c = search needs
 
 loop2-holds : tie.Need-loop2-holds Inv-loop μ-loop Inv-loop2 μ-loop2
-loop2-holds c = (omega arith, omega arith, filled-none _ _ _ _ _ refl refl)
+loop2-holds c = (omega arith, omega arith, filled-none _ _ _ _ _ _ refl refl refl)
 
 side-requires-2 : tie.Need-side-requires-2 Inv-loop μ-loop Inv-loop2 μ-loop2
 side-requires-2 c κs = search needs
@@ -102,6 +103,12 @@ mul-theirs c = search needs
 array-write-theirs : tie.Need-array-write-theirs Inv-loop μ-loop Inv-loop2 μ-loop2
 array-write-theirs c = search needs
 
+mul-places : tie.Need-mul-places Inv-loop μ-loop Inv-loop2 μ-loop2
+mul-places c = search needs
+
+array-write-places : tie.Need-array-write-places Inv-loop μ-loop Inv-loop2 μ-loop2
+array-write-places c = search needs
+
 add-tried : tie.Need-add-tried Inv-loop μ-loop Inv-loop2 μ-loop2
 add-tried c = record { fits = omega (arith, c .before .entry-for .ensures .1) }
 
@@ -112,10 +119,10 @@ loop2-less : tie.Need-loop2-less Inv-loop μ-loop Inv-loop2 μ-loop2
 loop2-less c = search needs
 
 loop2-again : tie.Need-loop2-again Inv-loop μ-loop Inv-loop2 μ-loop2
-loop2-again c = let p = c .before .before .before .before .before .before .before .before .before .before .pre in (omega arith, omega (arith, c .before .entry-for .ensures .1), filled-more _ _ _ (c .before .before .before .before .loop2 .i) _ _ _ _ _ _ (omega arith) (c .before .before .before .before .loop2 .inv .2) (way-entry _ _ (p .0) (p .1) (p .2) _ _ _ _ (c .before .before .before .before .before .loop-test .left) (c .before .before .before .before .before .before .loop .inv .1) (c .before .before .before .before .loop2 .i) (omega arith) _ (c .before .before .side2 .ensures) _ _ _ _ (c .before .entry-for .ensures .0)))
+loop2-again c = let p = c .before .before .before .before .before .before .before .before .before .before .pre in (omega arith, omega (arith, c .before .entry-for .ensures .1), filled-more _ _ _ (c .before .before .before .before .loop2 .i) _ _ _ _ _ _ _ _ (omega arith) (c .before .before .before .before .loop2 .inv .2) (way-entry _ _ (p .0) (p .1) (p .2) _ _ _ _ (c .before .before .before .before .before .loop-test .left) (c .before .before .before .before .before .before .loop .inv .1) (c .before .before .before .before .loop2 .i) (omega arith) _ (c .before .before .side2 .ensures) _ _ _ _ _ (c .before .entry-for .ensures .0)))
 
 returns : tie.Need-returns Inv-loop μ-loop Inv-loop2 μ-loop2
-returns c = filled-all _ _ _ (c .before .loop2 .i) _ _ _ (omega arith) (omega arith) (c .before .loop2 .inv .2)
+returns c = filled-all _ _ _ (c .before .loop2 .i) _ _ _ _ (omega arith) (omega arith) (c .before .loop2 .inv .2)
 
 pub around-spec : {M : Type 1} → statement M
 around-spec =
@@ -131,8 +138,8 @@ around-spec =
     go-down-requires
     mul-levels
     array-write-levels
-    mul-places
-    array-write-places
+    mul-ends
+    array-write-ends
     add-j
     loop-less
     loop-again
@@ -151,6 +158,8 @@ around-spec =
     array-write-found
     mul-theirs
     array-write-theirs
+    mul-places
+    array-write-places
     add-tried
     add-i
     loop2-less

@@ -13,7 +13,7 @@ refused-requires : tie.Need-refused-requires
 refused-requires c κs = search needs
 
 returns : tie.Need-returns
-returns c = dual-unsound _ _ _ _ _ _ (c .refused .ensures) (denied (c .before .before .sound .result) _ (not-true _ (c .before .if1 .taken)) (c .before .before .sound .ensures))
+returns c = dual-unsound _ _ _ _ _ _ _ (c .refused .ensures) (denied (c .before .before .sound .result) _ (not-true _ (c .before .if1 .taken)) (c .before .before .sound .ensures))
 
 dual-cell-trusting-requires : tie.Need-dual-cell-trusting-requires
 dual-cell-trusting-requires c κs = search needs
@@ -21,7 +21,7 @@ dual-cell-trusting-requires c κs = search needs
 returns-2 : tie.Need-returns-2
 returns-2 c =
     let r = c .dual-cell-trusting .result in
-    trusting-dual _ (said (c .before .before .sound .result) _ (not-false _ (c .before .if1 .left)) (c .before .before .sound .ensures)) _ _ (c .before .before .before .before .before .before .before .fits .vertex .fits) (r .keys) (r .distances) (r .tried) (c .dual-cell-trusting .ensures)
+    trusting-dual _ (said (c .before .before .sound .result) _ (not-false _ (c .before .if1 .left)) (c .before .before .sound .ensures)) _ _ (c .before .before .before .before .before .before .before .fits .vertex .fits) (r .keys) (r .distances) (r .places) (r .tried) (c .dual-cell-trusting .ensures)
 
 pub dual-cell-spec : {M : Type 1} → statement M
 dual-cell-spec = tie.close (tie.spec sound-requires refused-requires returns dual-cell-trusting-requires returns-2)

@@ -17,13 +17,13 @@ refused-requires : tie.Need-refused-requires
 refused-requires c κs = search needs
 
 returns : tie.Need-returns
-returns c = trusting-refused _ _ _ _ _ _ _ (c .refused .ensures) (inl (sym (c .before .before .is-inner .ensures) ∙ not-true _ (c .before .if1 .taken)))
+returns c = trusting-refused _ _ _ _ _ _ _ _ (c .refused .ensures) (inl (sym (c .before .before .is-inner .ensures) ∙ not-true _ (c .before .if1 .taken)))
 
 refused-requires-2 : tie.Need-refused-requires-2
 refused-requires-2 c κs = search needs
 
 returns-2 : tie.Need-returns-2
-returns-2 c = trusting-refused _ _ _ _ _ _ _ (c .refused2 .ensures) (inr (c .before .if2 .taken))
+returns-2 c = trusting-refused _ _ _ _ _ _ _ _ (c .refused2 .ensures) (inr (c .before .if2 .taken))
 
 mul-around : tie.Need-mul-around
 mul-around c = let l = inner-level _ _ (sym (c .before .before .is-inner .ensures) ∙ not-false _ (c .before .if1 .left)) in record { fits = omega arith }
@@ -41,7 +41,7 @@ around-requires : tie.Need-around-requires
 around-requires c κs = inner-ready _ _ (omega arith) (sym (c .before .before .is-inner .ensures) ∙ not-false _ (c .before .if1 .left))
 
 returns-3 : tie.Need-returns-3
-returns-3 c = let r = c .around .result in trusting-answers _ _ _ _ (r .keys) (r .distances) _ (r .tried) (sym (c .before .before .before .is-inner .ensures) ∙ not-false _ (c .before .before .if1 .left)) (c .before .if2 .left) refl (c .around .ensures)
+returns-3 c = let r = c .around .result in trusting-answers _ _ _ _ (r .keys) (r .distances) (r .places) _ (r .tried) (sym (c .before .before .before .is-inner .ensures) ∙ not-false _ (c .before .before .if1 .left)) (c .before .if2 .left) refl (c .around .ensures)
 
 pub dual-cell-trusting-spec : {M : Type 1} → statement M
 dual-cell-trusting-spec =

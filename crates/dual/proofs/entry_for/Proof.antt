@@ -9,8 +9,8 @@ use Rattle.dual.proofs.entry_for.Tie as tie
 returns : tie.Need-returns
 returns c = let p = c .before .before .pre in (entry-nothing _ _ _ _ _ (p .1) (p .4) (p .0) (c .if1 .taken), omega arith)
 
-add-distance-at : tie.Need-add-distance-at
-add-distance-at c = search needs
+add-place : tie.Need-add-place
+add-place c = search needs
 
 distance-at-requires : tie.Need-distance-at-requires
 distance-at-requires c κs = search needs
@@ -47,7 +47,7 @@ entry-for-spec =
     tie.close
     (tie.spec
     returns
-    add-distance-at
+    add-place
     distance-at-requires
     returns-2
     sub-t11
