@@ -1,26 +1,20 @@
 -- A host's batches give every vertex once: specs/Batches.antt, proved. Assumes nothing.
 use Prim.Native.Nat.{ℕ, zero, suc, _+_, _-_, _*_, _/_, _%_, _^_, _≤_, _<_}
-use mathlib.Core.Path.{_≡_, refl, sym, _∙_, ap, ap₂, subst, subst₂}
+use mathlib.Core.Path.{_≡_, refl, sym, _∙_, ap, ap₂, subst}
 use mathlib.Core.Bool.{Bool, true, false, cond}
-use mathlib.Core.List.{List, [], _∷_, _++_, append-nil, append-assoc, map}
-use native.Mathlib.Decide.{decLt}
+use mathlib.Core.Logic.{_⊎_, inl, inr, ⊎-elim}
+use mathlib.Core.List.{List, [], _∷_, _++_, append-nil, append-assoc}
 use native.Mathlib.Omega.{arith}
-use lib.Ieee.{Float, nan}
-use lib.ListN.{length, getD, take, drop, length-append, length-take, length-drop, length-map, take-append-drop, List·getD-eq-default}
-use lib.Seq.{take-all, take-at, length-take-le, drop-length, getD-take, getD-drop}
+use lib.Ieee.{Float}
+use lib.ListN.{length, getD, take, drop, length-append, length-take, take-append-drop}
+use lib.Seq.{take-all, take-at, drop-length, getD-take, getD-drop}
 use borrow.Author.Tests.{le-leb, lt-leb}
-use Rattle.morton.specs.Level.{deepest, limit, largest, level}
-use Rattle.morton.specs.Vertex.{sideOf}
-use Rattle.morton.proofs.Levels.{cell-level, eight-mono}
-use Rattle.tree.specs.Tree.{Tree, In, Ascending, Sound}
-use Rattle.tree.specs.Climb.{Deepest}
+use Rattle.morton.specs.Level.{deepest, limit}
+use Rattle.morton.proofs.Levels.{eight-mono}
+use Rattle.tree.specs.Tree.{Tree, Ascending, Sound}
 use Rattle.tree.specs.Down.{Nodes}
 use Rattle.tree.proofs.Finding.{nodes}
 use Rattle.tree.proofs.Lists.{Asc, asc-weaken, asc-at}
-use Rattle.geometry.specs.Grid.{sum}
-use Rattle.geometry.specs.Listing.{Listed}
-use Rattle.geometry.proofs.Place.{OnGrid, side, side-cell, side-on-grid, corner-grid}
-use Rattle.geometry.proofs.Listing.{giver, listed-strict, listed-corner}
 use Rattle.vertices.specs.Walk.{Spot, inTurn, lowCorner, divided, meets, ending, walked, spotsOf, verticesOf, levelsOf}
 use Rattle.vertices.specs.Cells.{since, wanted, placesOf, Cells, cellsOf, roomOf, CellsSays}
 use Rattle.vertices.specs.Listing.{written}
@@ -29,8 +23,10 @@ use Rattle.vertices.proofs.Spot.{corner-next}
 use Rattle.vertices.proofs.Law.{corner-add, corner-first, corner-last, spots-listed}
 use Rattle.vertices.proofs.Storing.{places-append, places-length}
 use Rattle.vertices.proofs.Rounds.{cells-right}
-use Rattle.dual.specs.Dual.{triedTo, DualCell}
-use Rattle.demands.specs.Batches.{withBatch, Batches, Done, OfFullBatches, OfAllBatches, placesAt, AllCells, OfSoundTreesInBatches}
+use Rattle.dual.specs.declared.Tried.the-variants.{Keys}
+use Rattle.dual.specs.Dual.{DualCell}
+use Rattle.dual.proofs.Filling.{answer-at, dual-inside, trusting-dual}
+use Rattle.demands.specs.Batches.{placesAt, CellAt, OfEachCall, withBatch, Batches, Done, OfFullBatches, OfAllBatches, AllCells, OfSoundTreesInBatches}
 use Rattle.demands.specs.Batches.Batches.{begun, full}
 use Rattle.demands.specs.Batches.Done.{done}
 
@@ -263,6 +259,54 @@ batches-kept {ks} (full {calls} {from} {got} was left n b room says all) =
     let k = batches-kept b in
     kept-full ks calls from got k was left n says (s .0) (s .1) all _ (omega (arith, last-came ks calls from got k was left n says (s .0) (s .1) all))
 
+-- ---- the places that go with a vertex
+
+-- place i of the table is one of the eight of vertex i / 8
+place-of : (i : ℕ) (got : Cells) → getD (placesAt (i / 8) got) (i % 8) 0 ≡ getD (got .places) i 0
+place-of i got =
+    let e : 8 * (i / 8) + i % 8 ≡ i = omega arith in
+    getD-take 8 (drop (8 * (i / 8)) (got .places)) (i % 8) 0 (omega arith)
+    ∙ getD-drop (8 * (i / 8)) (got .places) (i % 8) 0
+    ∙ ap (λ (x : ℕ). getD (got .places) x 0) e
+
+pub of-each-call : OfEachCall
+of-each-call ks from was left n says j h ds =
+    let p = cells-right ks from was left n says j h in
+    answer-at _ _ (p .word) (p .inner) ks ds (placesAt j left) (λ z. omega (arith, p .more)) (p .eight) (p .at)
+
+-- so each lies inside, or is 0
+pub places-inside : (ks : Nodes) (from : ℕ) (was left : Cells) (n : ℕ) → CellsSays ks from was left n → (i : ℕ) → i < 8 * n
+    → (getD (left .places) i 0 ≡ 0) ⊎ (getD (left .places) i 0 < length (ks .keys))
+places-inside ks from was left n says i h =
+    let (keys, distances, tried, answer) = of-each-call ks from was left n says (i / 8) (omega arith) [] in
+    subst (λ (p : ℕ). (p ≡ 0) ⊎ (p < length (ks .keys))) (place-of i left)
+    (⊎-elim (λ z. inl (z .1)) (λ z. inr (z .1)) (dual-inside ks [] _ _ keys distances (placesAt (i / 8) left) (Keys tried) answer (i % 8) (omega arith)))
+
+-- one call with room for just all of them
+one-call : (ks : Nodes) → CellsSays ks 0 (cellsAt ks (spotsOf ks)) (cellsAt ks (spotsOf ks)) (length (spotsOf ks))
+unfolding wanted roomOf
+one-call ks = record { count = ap length (sym all); vertices-are = table verticesOf; levels-are = table levelsOf; places-are = table (placesOf ks) }
+  where
+    room : ℕ
+    room = roomOf (cellsAt ks (spotsOf ks))
+
+    enough : length (spotsOf ks) ≤ room
+    enough = omega (arith, vertices-length (spotsOf ks), levels-length (spotsOf ks), places-length ks (spotsOf ks))
+
+    all : wanted 0 room (spotsOf ks) ≡ spotsOf ks
+    all = ap (take room) (since-from 0 1 (2 ^ 64) (spotsOf ks) (omega arith) (spots-apart ks)) ∙ take-all room (spotsOf ks) enough
+
+    table : (of : List Spot → List ℕ) → of (spotsOf ks) ≡ written (of (spotsOf ks)) 0 (of (wanted 0 room (spotsOf ks)))
+    table of =
+        let e : length (of (spotsOf ks)) ≡ 0 + length (of (spotsOf ks)) = omega arith in
+        sym (append-nil (of (spotsOf ks)))
+        ∙ ap (λ (xs : List ℕ). of (spotsOf ks) ++ xs) (sym (drop-length (of (spotsOf ks))) ∙ ap (λ (n : ℕ). drop n (of (spotsOf ks))) e)
+        ∙ ap (λ (ss : List Spot). written (of (spotsOf ks)) 0 (of ss)) (sym all)
+
+-- so of all of them
+each-cell : (ks : Nodes) (j : ℕ) → j < length (verticesOf (spotsOf ks)) → CellAt ks (cellsAt ks (spotsOf ks)) j
+each-cell ks j h = of-each-call ks 0 (cellsAt ks (spotsOf ks)) (cellsAt ks (spotsOf ks)) (length (spotsOf ks)) (one-call ks) j (omega (arith, vertices-length (spotsOf ks)))
+
 -- ---- on any tables
 
 pub of-full-batches : OfFullBatches
@@ -287,6 +331,7 @@ of-all-batches ks made all (done {calls} {from} {got} was left n b says fewer) =
     record {
       all = is;
       ascending = subst Ascending (sym vertices-are) (asc-at 1 (verticesOf (spotsOf ks)) (apart-asc 1 (2 ^ 64) (spotsOf ks) (spots-apart ks)));
+      cell = subst (λ (got : Cells). (j : ℕ) → j < length (got .vertices) → CellAt ks got j) (sym is) (each-cell ks);
       ends = omega (arith, k .few, ap length vertices-are, vertices-length (spotsOf ks), ap length (k .both), length-append (k .past) (k .ahead));
     }
   where
@@ -301,132 +346,29 @@ of-all-batches ks made all (done {calls} {from} {got} was left n b says fewer) =
 
 -- ---- of a sound tree
 
--- the keys and distances that stand at some places
-map-at : {A : Type 0} (f : ℕ → A) (none : A) (ps : List ℕ) (i : ℕ) → i < length ps → getD (map f ps) i none ≡ f (getD ps i 0)
-map-at f none [] i h = absurd (omega arith)
-map-at f none (p ∷ ps) zero h = refl
-map-at f none (p ∷ ps) (suc i) h = map-at f none ps i (omega arith)
-
-level-none : level 0 ≡ 0
-unfolding largest
-level-none = refl
-
--- one call with room for just all of them
-one-call : (ks : Nodes) → CellsSays ks 0 (cellsAt ks (spotsOf ks)) (cellsAt ks (spotsOf ks)) (length (spotsOf ks))
-unfolding wanted roomOf
-one-call ks = record { count = ap length (sym all); vertices-are = table verticesOf; levels-are = table levelsOf; places-are = table (placesOf ks) }
-  where
-    room : ℕ
-    room = roomOf (cellsAt ks (spotsOf ks))
-
-    enough : length (spotsOf ks) ≤ room
-    enough = omega (arith, vertices-length (spotsOf ks), levels-length (spotsOf ks), places-length ks (spotsOf ks))
-
-    all : wanted 0 room (spotsOf ks) ≡ spotsOf ks
-    all = ap (take room) (since-from 0 1 (2 ^ 64) (spotsOf ks) (omega arith) (spots-apart ks)) ∙ take-all room (spotsOf ks) enough
-
-    table : (of : List Spot → List ℕ) → of (spotsOf ks) ≡ written (of (spotsOf ks)) 0 (of (wanted 0 room (spotsOf ks)))
-    table of =
-        let e : length (of (spotsOf ks)) ≡ 0 + length (of (spotsOf ks)) = omega arith in
-        sym (append-nil (of (spotsOf ks)))
-        ∙ ap (λ (xs : List ℕ). of (spotsOf ks) ++ xs) (sym (drop-length (of (spotsOf ks))) ∙ ap (λ (n : ℕ). drop n (of (spotsOf ks))) e)
-        ∙ ap (λ (ss : List Spot). written (of (spotsOf ks)) 0 (of ss)) (sym all)
-
 module _ (t : Tree) (S : Sound t) where
   got : Cells
   got = cellsAt (nodes t) (spotsOf (nodes t))
-
-  list : Listed (t .leaves) (got .vertices) (got .levels)
-  unfolding got
-  list = spots-listed t S
 
   eight-each : length (got .places) ≡ 8 * length (got .vertices)
   unfolding got
   eight-each = omega (arith, places-length (nodes t) (spotsOf (nodes t)), vertices-length (spotsOf (nodes t)))
 
-  shallow : (k : ℕ) → In k (t .leaves) → level k ≤ 20
-  shallow k m = omega (arith, S .cells k (S .leaves-childless k m .0) .1)
+  cell : (j : ℕ) → j < length (got .vertices)
+      → (keys : List ℕ) × (distances : List Float) × (tried : ℕ) × DualCell t (getD (got .levels) j 0) (getD (got .vertices) j 0) keys distances (placesAt j got) tried
+  unfolding got
+  cell j h =
+      let (keys, distances, tried, says) = each-cell (nodes t) j h (t .distances) in
+      let word = cells-right (nodes t) 0 got got (length (spotsOf (nodes t))) (one-call (nodes t)) j (omega (arith, vertices-length (spotsOf (nodes t)))) .word in
+      (keys, distances, tried, trusting-dual t S _ _ word keys distances (placesAt j got) (Keys tried) says .3)
 
-  module _ (j : ℕ) (hj : j < length (got .vertices)) where
-    L : ℕ
-    L = getD (got .levels) j 0
-
-    v : ℕ
-    v = getD (got .vertices) j 0
-
-    level-side : (i : ℕ) → i < 8 → level (sideOf L v i) ≡ L
-    unfolding L v
-    level-side i hi =
-        let g = giver (t .leaves) (got .vertices) (got .levels) shallow list j hj in
-        let low : getD (got .levels) j 0 ≤ 20 = omega (arith, g .at-level, shallow (g .leaf) (g .is-leaf)) in
-        let corner = listed-corner (t .leaves) (got .vertices) (got .levels) shallow list j hj in
-        let grid = subst (λ (n : ℕ). OnGrid n (getD (got .vertices) j 0)) (g .at-level) (corner-grid (level (g .leaf)) (g .leaf) (g .corner) (getD (got .vertices) j 0) corner) in
-        ap level (side-on-grid (getD (got .levels) j 0) (getD (got .vertices) j 0) i (omega arith) hi (listed-strict (t .leaves) (got .vertices) (got .levels) shallow list j hj) grid)
-        ∙ cell-level (getD (got .levels) j 0) (side (getD (got .levels) j 0) (getD (got .vertices) j 0) i) (omega arith) (side-cell (getD (got .levels) j 0) (getD (got .vertices) j 0) i)
-
-    eight-here : length (placesAt j got) ≡ 8
-    eight-here = length-take-le 8 (drop (8 * j) (got .places)) (omega (arith, length-drop (8 * j) (got .places), eight-each, hj))
-
-    keys : List ℕ
-    keys = map (λ (p : ℕ). getD (t .keys) p 0) (placesAt j got)
-
-    distances : List Float
-    distances = map (λ (p : ℕ). getD (t .distances) p nan) (placesAt j got)
-
-    module _ (i : ℕ) (hi : i < 8) where
-      place : ℕ
-      place = getD (got .places) (8 * j + i) 0
-
-      found : Deepest t (sideOf L v i) (getD (t .keys) place 0) (getD (t .distances) place nan) (triedTo L (getD (t .keys) place 0))
-      unfolding got L v place
-      found =
-          subst (λ (n : ℕ). Deepest t (sideOf L v i) (getD (t .keys) place 0) (getD (t .distances) place nan) (n - level (getD (t .keys) place 0) + 1)) (level-side i hi)
-          (cells-right t S 0 got got (length (spotsOf (nodes t))) (one-call (nodes t)) j i (omega (arith, vertices-length (spotsOf (nodes t)))) hi)
-
-      -- past the end there would be 0, which is no deepest ancestor
-      place-inside : place < length (t .keys)
-      place-inside =
-          elim (decLt place (length (t .keys))) [
-            | yes l ↦ l
-            | no l ↦ absurd (omega (arith, found .not-root, ap level (List·getD-eq-default (t .keys) 0 {n = place} (omega arith)), level-none))
-          ]
-
-      here : i < length (placesAt j got)
-      here = omega (arith, eight-here)
-
-      place-is : getD (placesAt j got) i 0 ≡ place
-      unfolding place
-      place-is = getD-take 8 (drop (8 * j) (got .places)) i 0 hi ∙ getD-drop (8 * j) (got .places) i 0
-
-      entry : Deepest t (sideOf L v i) (getD keys i 0) (getD distances i nan) (triedTo L (getD keys i 0))
-      unfolding keys distances
-      entry =
-          subst₂ (λ (k : ℕ) (d : Float). Deepest t (sideOf L v i) k d (triedTo L k))
-          (sym (map-at (λ (p : ℕ). getD (t .keys) p 0) 0 (placesAt j got) i here ∙ ap (λ (p : ℕ). getD (t .keys) p 0) place-is))
-          (sym (map-at (λ (p : ℕ). getD (t .distances) p nan) nan (placesAt j got) i here ∙ ap (λ (p : ℕ). getD (t .distances) p nan) place-is))
-          found
-
-    cell : (tried : ℕ) × DualCell t L v keys distances tried
-    unfolding keys distances
-    cell = (
-      sum (λ i. triedTo L (getD keys i 0)) 8,
-      record {
-        eight-keys = length-map (placesAt j got) (λ (p : ℕ). getD (t .keys) p 0) ∙ eight-here;
-        eight-distances = length-map (placesAt j got) (λ (p : ℕ). getD (t .distances) p nan) ∙ eight-here;
-        entry = entry;
-        count = refl;
-      },
-    )
-
-  inside : (x : ℕ) → x < length (got .places) → getD (got .places) x 0 < length (t .keys)
-  unfolding place
-  inside x h =
-      let e : 8 * (x / 8) + x % 8 ≡ x = omega arith in
-      subst (λ (y : ℕ). getD (got .places) y 0 < length (t .keys)) e (place-inside (x / 8) (omega (arith, eight-each)) (x % 8) (omega arith))
+  inside : (i : ℕ) → i < length (got .places) → getD (got .places) i 0 < length (t .keys)
+  inside i h =
+      subst (λ (p : ℕ). p < length (t .keys)) (place-of i got) (cell (i / 8) (omega (arith, eight-each)) .3 .entry (i % 8) (omega arith) .present .inside)
 
   all-cells : AllCells t got
-  unfolding L v keys distances
-  all-cells = record { listed = list; eight-each = eight-each; inside = inside; cell = cell }
+  unfolding got
+  all-cells = record { listed = spots-listed t S; eight-each = eight-each; inside = inside; cell = cell }
 
 pub of-sound-trees-in-batches : OfSoundTreesInBatches
 unfolding got

@@ -39,8 +39,8 @@ use Rattle.dual.specs.declared.Dual.{Dual}
 use Rattle.dual.specs.declared.Tried.{Tried}
 use Rattle.dual.specs.declared.Tried.the-variants as tried
 use Rattle.dual.specs.declared.Tried.the-variants.{Keys}
-use Rattle.dual.specs.Dual.{DualSays, DualCell, keyIn, distanceIn, lookupAt, Around}
-use Rattle.dual.proofs.Filling.{around-dual}
+use Rattle.dual.specs.Dual.{DualSays, DualCell}
+use Rattle.dual.proofs.Filling.{any-around, around-dual}
 use Rattle.demands.specs.Reading.{Once, LeafCorner, ListsCorners, Answered, HoldsAlone, LeafCell, part, Reading, OfSoundTrees, treeAfter, OfFinishedBuilds}
 use Rattle.demands.proofs.Soundness.{finished-sound, leaves-within, finest-within}
 
@@ -103,8 +103,8 @@ module _ (D : ℕ) (t : Tree) (deep : D ≤ deepest) (s : Shape D (t .keys) (t .
           absurd (omega (arith, grid-level L v inner grid, some .2, ap level q, ap level o))
       go (suc l) e c = omega arith
 
-  holds-alone : Entry D L v i (t .leaves) → {key : ℕ} {distance : Float} {tried : ℕ} → Deepest t (sideOf L v i) key distance tried
-      → HoldsAlone D t (sideOf D v i) key distance
+  holds-alone : Entry D L v i (t .leaves) → {key : ℕ} {distance : Float} {place tried : ℕ} → Deepest t (sideOf L v i) key distance place tried
+      → HoldsAlone D t (sideOf D v i) key distance place
   holds-alone n {key} {distance} d =
       let k : ℕ = n .leaf .cell in
       let at : sideOf L v i ≡ side L v i = side-on-grid L v i (omega arith) hi inner grid in
@@ -116,46 +116,8 @@ module _ (D : ℕ) (t : Tree) (deep : D ≤ deepest) (s : Shape D (t .keys) (t .
         leaf = in-cast e (n .leaf .member);
         holds = ap₂ (liesIn D) fine e ∙ n .leaf .holds;
         only = λ j m h. n .leaf .only j m (ap (λ (f : ℕ). liesIn D f j) (sym fine) ∙ h) ∙ sym e;
-        place = d .place;
         stands = d .present;
         its-distance = d .its-distance;
-      }
-
--- ---- the dual cell of any inner vertex
-
--- n places, filled with f from i on
-places : {A : Type 0} → (ℕ → A) → ℕ → ℕ → List A
-places f i zero = []
-places f i (suc n) = f i ∷ places f (suc i) n
-
-length-places : {A : Type 0} (f : ℕ → A) (i n : ℕ) → length (places f i n) ≡ n
-unfolding places
-length-places f i zero = refl
-length-places f i (suc n) = ap suc (length-places f (suc i) n)
-
-place-at : {A : Type 0} (f : ℕ → A) (none : A) (i n j : ℕ) → j < n → getD (places f i n) j none ≡ f (i + j)
-unfolding places
-place-at f none i zero j h = absurd (omega arith)
-place-at f none i (suc n) zero h = ap f (omega arith)
-place-at f none i (suc n) (suc j) h = place-at f none (suc i) n j (omega arith) ∙ ap f (omega arith)
-
--- what the lookups find
-module _ (ns : Nodes) (ds : List Float) (q : ℕ) where
-  found-keys : List ℕ
-  found-keys = places (λ i. keyIn (lookupAt ns ds q i)) 0 8
-
-  found-distances : List Float
-  found-distances = places (λ i. distanceIn (lookupAt ns ds q i)) 0 8
-
-  found-around : Around ns ds q found-keys found-distances (sum (λ i. triedIn (lookupAt ns ds q i)) 8)
-  unfolding found-keys found-distances
-  found-around =
-      record {
-        eight-keys = length-places (λ i. keyIn (lookupAt ns ds q i)) 0 8;
-        eight-distances = length-places (λ i. distanceIn (lookupAt ns ds q i)) 0 8;
-        key = λ i h. place-at (λ i. keyIn (lookupAt ns ds q i)) 0 0 8 i h ∙ ap (λ (j : ℕ). keyIn (lookupAt ns ds q j)) (omega arith);
-        distance = λ i h. place-at (λ i. distanceIn (lookupAt ns ds q i)) nan 0 8 i h ∙ ap (λ (j : ℕ). distanceIn (lookupAt ns ds q j)) (omega arith);
-        count = refl;
       }
 
 -- ---- what stands in the tables
@@ -220,9 +182,9 @@ module _ (t : Tree) (sound : Sound t) (D : ℕ) (deep : D ≤ deepest) (leaf : (
       has-none start was left r same (list.Refused k) (_, why) = ⊎-elim (λ x. absurd (x .0 sound)) (λ x. ap list.Refused (x .2)) why
 
   dual-read : (vs ls : List ℕ) → Listed (t .leaves) vs ls → (j : ℕ) → j < length vs
-      → (keys : List ℕ) (distances : List Float) (tried : ℕ) → DualCell t (getD ls j 0) (getD vs j 0) keys distances tried
-      → (i : ℕ) → i < 8 → HoldsAlone D t (sideOf D (getD vs j 0) i) (getD keys i 0) (getD distances i nan)
-  dual-read vs ls list j l keys distances tried c i h =
+      → (keys : List ℕ) (distances : List Float) (places : List ℕ) (tried : ℕ) → DualCell t (getD ls j 0) (getD vs j 0) keys distances places tried
+      → (i : ℕ) → i < 8 → HoldsAlone D t (sideOf D (getD vs j 0) i) (getD keys i 0) (getD distances i nan) (getD places i 0)
+  dual-read vs ls list j l keys distances places tried c i h =
       let v : ℕ = getD vs j 0 in
       let L : ℕ = getD ls j 0 in
       let g = giver (t .leaves) vs ls shallow list j l in
@@ -252,23 +214,25 @@ module _ (t : Tree) (sound : Sound t) (D : ℕ) (deep : D ≤ deepest) (leaf : (
       omega (arith, node .inside, other)
 
   leaf-cell : (vs ls : List ℕ) → Listed (t .leaves) vs ls → (j : ℕ) → j < length vs → (r : Dual)
-      → DualSays t (getD ls j 0) (getD vs j 0) (r .keys) (r .distances) (r .tried) → LeafCell D t (getD vs j 0) r
+      → DualSays t (getD ls j 0) (getD vs j 0) (r .keys) (r .distances) (r .places) (r .tried) → LeafCell D t (getD vs j 0) r
   leaf-cell vs ls list j l r = go (r .tried) refl
     where
-      go : (a : Tried) → r .tried ≡ a → DualSays t (getD ls j 0) (getD vs j 0) (r .keys) (r .distances) a → LeafCell D t (getD vs j 0) r
+      go : (a : Tried) → r .tried ≡ a → DualSays t (getD ls j 0) (getD vs j 0) (r .keys) (r .distances) (r .places) a → LeafCell D t (getD vs j 0) r
       go (Keys n) e (_, _, _, c) =
           record {
             answered = λ k f. let z : _≡_ {A = ℕ} 0 1 = cc in omega arith;
-            entry = dual-read vs ls list j l (r .keys) (r .distances) n c;
+            entry = dual-read vs ls list j l (r .keys) (r .distances) (r .places) n c;
           }
-      go (tried.Refused k) e (_, _, why) =
+      go (tried.Refused k) e (_, _, _, why) =
           absurd (⊎-elim (λ x. x .0 sound)
           (λ x. ⊎-elim (λ f. true≢false (sym (listed-inner vs ls list j l) ∙ f)) (λ alone. omega (arith, listed-more vs ls list j l)) (x .1))
           why)
 
   found-cell : 1 < length (t .keys) → (v L : ℕ) → v < 2 ^ 64 → isInner L v ≡ true
-      → (keys : List ℕ) × (distances : List Float) × (tried : ℕ) × DualCell t L v keys distances tried
-  found-cell more v L small e = (_, _, _, around-dual t sound L v small e more _ _ _ (found-around (nodes t) (t .distances) (v / 8 ^ (deepest - L))))
+      → (keys : List ℕ) × (distances : List Float) × (places : List ℕ) × (tried : ℕ) × DualCell t L v keys distances places tried
+  found-cell more v L small e =
+      let (keys, distances, places, tried, a) = any-around (nodes t) (t .distances) (v / 8 ^ (deepest - L)) in
+      (keys, distances, places, tried, around-dual t sound L v small e more keys distances places tried a)
 
   reading : Reading D t
   reading =
@@ -283,7 +247,7 @@ module _ (t : Tree) (sound : Sound t) (D : ℕ) (deep : D ≤ deepest) (leaf : (
             let v : getD (left .vertices) (start + j) 0 ≡ getD (w .vs) j 0 = vertices-at t start n was left w j h in
             subst (λ (x : ℕ). LeafCell D t x r) (sym v)
             (leaf-cell (w .vs) (w .ls) (w .listed) j l r
-            (subst₂ (λ (L x : ℕ). DualSays t L x (r .keys) (r .distances) (r .tried)) (levels-at t start n was left w j h) v d));
+            (subst₂ (λ (L x : ℕ). DualSays t L x (r .keys) (r .distances) (r .places) (r .tried)) (levels-at t start n was left w j h) v d));
         found = found-cell;
       }
 

@@ -1,15 +1,33 @@
--- A host that goes over all vertices by `cells_trusting`, some at a time: it gets each once. proofs/Batches.antt proves the three `Of..`.
+-- A host that goes over all vertices by `cells_trusting`, some at a time: it gets each once, with its dual cell. proofs/Batches.antt proves the four `Of..`.
 use Prim.Native.Nat.{ℕ, _+_, _*_, _-_, _^_, _≤_, _<_}
 use mathlib.Core.Path.{_≡_}
-use mathlib.Core.List.{List, [], _++_, map}
-use lib.Ieee.{nan}
+use mathlib.Core.List.{List, [], _++_}
+use lib.Ieee.{Float}
 use lib.ListN.{length, getD, take, drop}
 use Rattle.tree.specs.Tree.{Tree, Ascending, Sound}
 use Rattle.tree.specs.Down.{Nodes, nodesOf}
 use Rattle.geometry.specs.Listing.{Listed}
 use Rattle.vertices.specs.Walk.{spotsOf, verticesOf, levelsOf}
 use Rattle.vertices.specs.Cells.{since, placesOf, Cells, cellsOf, roomOf, CellsSays}
-use Rattle.dual.specs.Dual.{DualCell}
+use Rattle.dual.specs.declared.Tried.the-variants.{Keys}
+use Rattle.dual.specs.Dual.{DualCell, TrustingSays}
+
+-- ---- the places that go with a vertex
+
+-- The eight places that go with vertex j.
+abbrev pub placesAt : ℕ → Cells → List ℕ
+placesAt j got = take 8 (drop (8 * j) (got .places))
+
+-- They are those of its dual cell: `dual_cell_trusting` accepts the vertex at its level, whatever the distances, and hands back these places.
+abbrev pub CellAt : Nodes → Cells → ℕ → Type 0
+CellAt ks got j =
+    (ds : List Float)
+    → (keys : List ℕ) × (distances : List Float) × (tried : ℕ)
+    × TrustingSays ks ds (getD (got .levels) j 0) (getD (got .vertices) j 0) keys distances (placesAt j got) (Keys tried)
+
+-- Of each vertex that a call hands out, on any tables at all.
+abbrev pub OfEachCall : Type 0
+OfEachCall = (ks : Nodes) (from : ℕ) (was left : Cells) (n : ℕ) → CellsSays ks from was left n → (j : ℕ) → j < n → CellAt ks left j
 
 -- ---- the host's loop
 
@@ -48,6 +66,7 @@ pub record GotAll (ks : Nodes) (calls : ℕ) (got : Cells) : Type 0 where
   -- It got what one call leaves that has room for all: each vertex once, ascending.
   pub all : got ≡ cellsOf (verticesOf (spotsOf ks)) (levelsOf (spotsOf ks)) (placesOf ks (spotsOf ks))
   pub ascending : Ascending (got .vertices)
+  pub cell : (j : ℕ) → j < length (got .vertices) → CellAt ks got j
   -- It made one call more than there are vertices, at most.
   pub ends : calls ≤ length (got .vertices) + 1
 
@@ -59,20 +78,16 @@ OfAllBatches = (ks : Nodes) (calls : ℕ) (got : Cells) → Done ks calls got �
 
 -- ---- of a sound tree
 
--- The eight places that go with vertex j.
-abbrev pub placesAt : ℕ → Cells → List ℕ
-placesAt j got = take 8 (drop (8 * j) (got .places))
-
 pub record AllCells (t : Tree) (got : Cells) : Type 0 where
   -- The vertices with their levels are the tree's list.
   pub listed : Listed (t .leaves) (got .vertices) (got .levels)
   -- There are eight places for each, and none is past the end of the keys.
   pub eight-each : length (got .places) ≡ 8 * length (got .vertices)
   pub inside : (i : ℕ) → i < length (got .places) → getD (got .places) i 0 < length (t .keys)
-  -- The keys and distances that stand there are its dual cell.
+  -- They are those of its dual cell.
   pub cell : (j : ℕ) → j < length (got .vertices)
-      → (tried : ℕ) × DualCell t (getD (got .levels) j 0) (getD (got .vertices) j 0)
-      (map (λ (p : ℕ). getD (t .keys) p 0) (placesAt j got)) (map (λ (p : ℕ). getD (t .distances) p nan) (placesAt j got)) tried
+      → (keys : List ℕ) × (distances : List Float) × (tried : ℕ)
+      × DualCell t (getD (got .levels) j 0) (getD (got .vertices) j 0) keys distances (placesAt j got) tried
 
 abbrev pub OfSoundTreesInBatches : Type 0
 OfSoundTreesInBatches = (t : Tree) → Sound t → (calls : ℕ) (got : Cells) → Done (nodesOf (t .keys) (t .firsts)) calls got → AllCells t got

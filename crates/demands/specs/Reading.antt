@@ -55,19 +55,18 @@ pub record Answered (t : Tree) : Type 0 where
   pub room : (start : ℕ) (was left : Lists) (a : ListAnswer) → ListSays t start was left a → Room start (length vertices) was → a ≡ Count (length vertices)
   pub no-room : (start : ℕ) (was left : Lists) (a : ListAnswer) → ListSays t start was left a → (Room start (length vertices) was → ⊥) → a ≡ Refused 12
 
--- k is the one leaf that holds the cell f of the finest grid, and d its distance.
-pub record HoldsAlone (D : ℕ) (t : Tree) (f k : ℕ) (d : Float) : Type 0 where
+-- k is the one leaf that holds the cell f of the finest grid, d its distance and place where it stands.
+pub record HoldsAlone (D : ℕ) (t : Tree) (f k : ℕ) (d : Float) (place : ℕ) : Type 0 where
   pub leaf : In k (t .leaves)
   pub holds : liesIn D f k ≡ true
   pub only : (j : ℕ) → In j (t .leaves) → liesIn D f j ≡ true → j ≡ k
-  pub place : ℕ
   pub stands : StandsAt (t .keys) place k
   pub its-distance : d ≡ getD (t .distances) place nan
 
--- The dual cell r of the vertex v: entry i is the one leaf that holds the finest cell on side i, with that leaf's distance. It isn't refused.
+-- The dual cell r of the vertex v: entry i is the one leaf that holds the finest cell on side i, with that leaf's distance and place. It isn't refused.
 pub record LeafCell (D : ℕ) (t : Tree) (v : ℕ) (r : Dual) : Type 0 where
   pub answered : (k : ℕ) → r .tried ≡ tried.Refused k → ⊥
-  pub entry : (i : ℕ) → i < 8 → HoldsAlone D t (sideOf D v i) (getD (r .keys) i 0) (getD (r .distances) i nan)
+  pub entry : (i : ℕ) → i < 8 → HoldsAlone D t (sideOf D v i) (getD (r .keys) i 0) (getD (r .distances) i nan) (getD (r .places) i 0)
 
 -- The n places of a table from the start place on.
 abbrev pub part : ℕ → ℕ → List ℕ → List ℕ
@@ -82,14 +81,14 @@ pub record Reading (D : ℕ) (t : Tree) : Type 0 where
   pub answered : Answered t
   pub list : (start n : ℕ) (was left : Lists) → ListSays t start was left (Count n)
       → ListsCorners (t .leaves) (part start n (left .vertices)) (part start n (left .levels))
-  -- Entry i of the dual cell of each listed vertex is the one leaf that holds the finest cell on side i, with that leaf's distance.
+  -- Entry i of the dual cell of each listed vertex is the one leaf that holds the finest cell on side i, with that leaf's distance and place.
   pub dual : (start n : ℕ) (was left : Lists) → ListSays t start was left (Count n)
       → (j : ℕ) → j < n → (r : Dual)
-      → DualSays t (getD (left .levels) (start + j) 0) (getD (left .vertices) (start + j) 0) (r .keys) (r .distances) (r .tried)
+      → DualSays t (getD (left .levels) (start + j) 0) (getD (left .vertices) (start + j) 0) (r .keys) (r .distances) (r .places) (r .tried)
       → LeafCell D t (getD (left .vertices) (start + j) 0) r
   -- The dual cell of any inner vertex, a number of 64 bits, at any level is found, unless the tree is the root alone.
   pub found : 1 < length (t .keys) → (v L : ℕ) → v < 2 ^ 64 → isInner L v ≡ true
-      → (keys : List ℕ) × (distances : List Float) × (tried : ℕ) × DualCell t L v keys distances tried
+      → (keys : List ℕ) × (distances : List Float) × (places : List ℕ) × (tried : ℕ) × DualCell t L v keys distances places tried
 
 -- For every sound tree, over any grid that is as fine as its leaves.
 abbrev pub OfSoundTrees : Type 0
