@@ -4,6 +4,9 @@
  * and that no other parameter of the same call points to; nothing is kept after the call. A pointer with a length is a table
  * of so many places: it must not be null even where the length is 0, and no two tables or places may overlap.
  *
+ * Lengths, starts, counts and places are uint64_t on every host, since the proved code takes them in 8 bytes. On a 32-bit host C's own
+ * type for sizes has 4: no compiler would warn, and the first call would store somewhere else.
+ *
  * A function that can refuse returns 0 where it accepts, and writes its result where the pointer says. Else it returns the
  * refusal's number and writes nothing: no out parameter, no state and no table.
  *
@@ -14,7 +17,6 @@
 #define MITTENHELM_H
 
 #include <stdbool.h>
-#include <stddef.h>
 #include <stdint.h>
 
 #ifdef __cplusplus
@@ -105,18 +107,18 @@ enum mittenhelm_state {
 /* Begins a build: writes the state, and asks for the root by its key, centre and half size; no table is read or written.
  * Refusals 5, 10 (other than nine words are no state). */
 uint32_t mittenhelm_start(uint32_t bound,
-    const uint64_t *keys, size_t keys_length, const float *distances, size_t distances_length,
-    const uint16_t *firsts, size_t firsts_length, const uint64_t *leaves, size_t leaves_length,
-    const uint64_t *queue, size_t queue_length,
-    uint64_t *state, size_t state_length,
+    const uint64_t *keys, uint64_t keys_length, const float *distances, uint64_t distances_length,
+    const uint16_t *firsts, uint64_t firsts_length, const uint64_t *leaves, uint64_t leaves_length,
+    const uint64_t *queue, uint64_t queue_length,
+    uint64_t *state, uint64_t state_length,
     uint64_t *key, float *x, float *y, float *z, float *half);
 
 /* Takes the distance of the cell that is asked for, and asks for the next one by its key, centre and half size; where none is
  * left, the state's asked key is 0 and the last five places stay as they were. Refusals 10, 9, 16, 6, then 7 or 8. */
-uint32_t mittenhelm_distance(uint64_t *state, size_t state_length,
-    uint64_t *keys, size_t keys_length, float *distances, size_t distances_length,
-    uint16_t *firsts, size_t firsts_length, uint64_t *leaves, size_t leaves_length,
-    uint64_t *queue, size_t queue_length,
+uint32_t mittenhelm_distance(uint64_t *state, uint64_t state_length,
+    uint64_t *keys, uint64_t keys_length, float *distances, uint64_t distances_length,
+    uint16_t *firsts, uint64_t firsts_length, uint64_t *leaves, uint64_t leaves_length,
+    uint64_t *queue, uint64_t queue_length,
     float distance,
     uint64_t *key, float *x, float *y, float *z, float *half);
 
@@ -130,30 +132,38 @@ uint32_t mittenhelm_distance(uint64_t *state, size_t state_length,
 
 /* Whether the tables hold a sound tree. */
 bool mittenhelm_sound(
-    const uint64_t *keys, size_t keys_length, const float *distances, size_t distances_length,
-    const uint16_t *firsts, size_t firsts_length, const uint64_t *leaves, size_t leaves_length);
+    const uint64_t *keys, uint64_t keys_length, const float *distances, uint64_t distances_length,
+    const uint16_t *firsts, uint64_t firsts_length, const uint64_t *leaves, uint64_t leaves_length);
 
-/* Finds the deepest present of a cell key and its ancestors of level 1 or more, with its distance, and says how many keys were
- * tried; where none is present, the key found and the distance are 0. Refusals 11, 1. */
+/* Finds the deepest present of a cell key and its ancestors of level 1 or more, with its distance and its place, and says how many
+ * keys were tried; where none is present, the key found, the distance and the place are 0. The place is where in keys, distances and
+ * first children the node stands: a host that keeps data of its own beside the node tables reads it there, without a search.
+ * Refusals 11, 1. */
 uint32_t mittenhelm_look_up(
-    const uint64_t *keys, size_t keys_length, const float *distances, size_t distances_length,
-    const uint16_t *firsts, size_t firsts_length, const uint64_t *leaves, size_t leaves_length,
-    uint64_t key, uint64_t *found, float *distance, uint32_t *tried);
+    const uint64_t *keys, uint64_t keys_length, const float *distances, uint64_t distances_length,
+    const uint16_t *firsts, uint64_t firsts_length, const uint64_t *leaves, uint64_t leaves_length,
+    uint64_t key, uint64_t *found, float *distance, uint64_t *place, uint32_t *tried);
 
 /* Writes the tree's vertices, ascending and each with its level, from place `start` on into two tables that the caller owns, and
  * their number to `count`; a start equal to a table's length isn't past its end. A tree of s splits, and so of 8s + 1 nodes, has at
  * most 19s: where both tables have so many places from `start` on, it is gone over once, else twice, to count first. Refusals 11, 12. */
 uint32_t mittenhelm_list(
-    const uint64_t *keys, size_t keys_length, const float *distances, size_t distances_length,
-    const uint16_t *firsts, size_t firsts_length, const uint64_t *leaves, size_t leaves_length,
-    size_t start, uint64_t *vertices, size_t vertices_length, uint8_t *levels, size_t levels_length, size_t *count);
+    const uint64_t *keys, uint64_t keys_length, const float *distances, uint64_t distances_length,
+    const uint16_t *firsts, uint64_t firsts_length, const uint64_t *leaves, uint64_t leaves_length,
+    uint64_t start, uint64_t *vertices, uint64_t vertices_length, uint8_t *levels, uint64_t levels_length, uint64_t *count);
 
-/* Looks up the cells of the level on the eight sides of an inner vertex: writes eight keys and eight distances, in corner order,
- * to places that the caller owns, and the number of keys tried for all eight. Refusals 11, 4. */
+/* Looks up the cells of the level on the eight sides of an inner vertex: writes eight keys, eight distances and eight places to tables
+ * that the caller owns, and the number of keys tried for all eight. Entry w is the cell that has the vertex at its corner w, or the node
+ * found over that cell: so entry 0 lies above the vertex on all axes, and entry 7 below on all. Refusals 11, 4.
+ *
+ * An example: the root and its eight children have the keys 1, 8, 9, .., 15 at the places 0 to 8. The vertex in the middle of the cube,
+ * 0xf000000000000000 at level 1, then has the dual cell with the keys 15, 14, .., 8 at the places 8, 7, .., 1. Entry 0 is 15, the child
+ * above on all axes, whose corner 0 is the vertex; entry 7 is 8, whose corner 7 is. */
 uint32_t mittenhelm_dual_cell(
-    const uint64_t *keys, size_t keys_length, const float *distances, size_t distances_length,
-    const uint16_t *firsts, size_t firsts_length, const uint64_t *leaves, size_t leaves_length,
-    uint64_t vertex, uint32_t level, uint64_t *cell_keys /* [8] */, float *cell_distances /* [8] */, uint32_t *tried);
+    const uint64_t *keys, uint64_t keys_length, const float *distances, uint64_t distances_length,
+    const uint16_t *firsts, uint64_t firsts_length, const uint64_t *leaves, uint64_t leaves_length,
+    uint64_t vertex, uint32_t level, uint64_t *cell_keys /* [8] */, float *cell_distances /* [8] */, uint64_t *cell_places /* [8] */,
+    uint32_t *tried);
 
 /* The slab in which the dual cell of an inner vertex at a level lies, of 2^exponent slabs (0 to 15) along z: that of its vertex.
  * Refusals 4, 5. */
@@ -173,32 +183,33 @@ uint32_t mittenhelm_slab(uint64_t vertex, uint32_t level, uint32_t exponent, uin
 
 /* As mittenhelm_look_up of a tree that was checked before; the distance of a place past the end of their table is 0. Refusal 1. */
 uint32_t mittenhelm_look_up_trusting(
-    const uint64_t *keys, size_t keys_length, const float *distances, size_t distances_length,
-    const uint16_t *firsts, size_t firsts_length,
-    uint64_t key, uint64_t *found, float *distance, uint32_t *tried);
+    const uint64_t *keys, uint64_t keys_length, const float *distances, uint64_t distances_length,
+    const uint16_t *firsts, uint64_t firsts_length,
+    uint64_t key, uint64_t *found, float *distance, uint64_t *place, uint32_t *tried);
 
 /* As mittenhelm_list of a tree that was checked before, of which the keys and first children are given. Refusal 12. */
 uint32_t mittenhelm_list_trusting(
-    const uint64_t *keys, size_t keys_length, const uint16_t *firsts, size_t firsts_length,
-    size_t start, uint64_t *vertices, size_t vertices_length, uint8_t *levels, size_t levels_length, size_t *count);
+    const uint64_t *keys, uint64_t keys_length, const uint16_t *firsts, uint64_t firsts_length,
+    uint64_t start, uint64_t *vertices, uint64_t vertices_length, uint8_t *levels, uint64_t levels_length, uint64_t *count);
 
 /* Writes the vertices that are no less than `from`, ascending and each with its level, as many as have room in all three tables,
- * and answers how many; `places` takes eight for each: where in keys and distances the nodes of its dual cell stand, in corner
- * order. A place is below the number of keys, or 0, of any tables (`places-inside`). A host with room for one at least begins with
- * `from` 0, goes on with the last vertex + 1, and is done when fewer came than have room: that it then has each vertex once, of any
- * tables at all, is proved (crates/demands/specs/Batches.antt). No refusal. */
-size_t mittenhelm_cells_trusting(
-    const uint64_t *keys, size_t keys_length, const uint16_t *firsts, size_t firsts_length,
-    uint64_t from, uint64_t *vertices, size_t vertices_length, uint8_t *levels, size_t levels_length,
-    size_t *places, size_t places_length);
+ * and answers how many; `places` takes eight for each: those of its dual cell, in the order of mittenhelm_dual_cell. A place is below
+ * the number of keys, or 0, of any tables (`places-inside`). A host with room for one at least begins with `from` 0, goes on with the
+ * last vertex + 1, and is done when fewer came than have room: that it then has each vertex once, of any tables at all, is proved
+ * (crates/demands/specs/Batches.antt). No refusal. */
+uint64_t mittenhelm_cells_trusting(
+    const uint64_t *keys, uint64_t keys_length, const uint16_t *firsts, uint64_t firsts_length,
+    uint64_t from, uint64_t *vertices, uint64_t vertices_length, uint8_t *levels, uint64_t levels_length,
+    uint64_t *places, uint64_t places_length);
 
 /* As mittenhelm_dual_cell of a tree that was checked before; a side for which nothing is found, as there is none in a sound tree,
- * gives the key 0 and the distance 0, and the distance of a place past the end of their table is 0. Refusal 4, also where there is one
- * key, which is the root alone. */
+ * gives the key 0, the distance 0 and the place 0, and the distance of a place past the end of their table is 0. Refusal 4, also where
+ * there is one key, which is the root alone. */
 uint32_t mittenhelm_dual_cell_trusting(
-    const uint64_t *keys, size_t keys_length, const float *distances, size_t distances_length,
-    const uint16_t *firsts, size_t firsts_length,
-    uint64_t vertex, uint32_t level, uint64_t *cell_keys /* [8] */, float *cell_distances /* [8] */, uint32_t *tried);
+    const uint64_t *keys, uint64_t keys_length, const float *distances, uint64_t distances_length,
+    const uint16_t *firsts, uint64_t firsts_length,
+    uint64_t vertex, uint32_t level, uint64_t *cell_keys /* [8] */, float *cell_distances /* [8] */, uint64_t *cell_places /* [8] */,
+    uint32_t *tried);
 
 #ifdef __cplusplus
 }

@@ -58,10 +58,6 @@ impl Untouched for u64 {
     const UNTOUCHED: Self = 0xdead_beef_0bad_cafe;
 }
 
-impl Untouched for usize {
-    const UNTOUCHED: Self = <u64 as Untouched>::UNTOUCHED as usize;
-}
-
 impl Untouched for u32 {
     const UNTOUCHED: Self = 0xc2f6_e979;
 }

@@ -25,51 +25,62 @@ use std::rc::Rc;
 /// How often a case makes its call on its tree.
 const TIMES: u32 = 20;
 
-/// The places for what a lookup finds.
+/// The out parameters for what a lookup finds.
 struct Found {
     key: Out<u64>,
     distance: Out<u32>,
+    place: Out<u64>,
     tried: Out<u32>,
 }
 
 impl Found {
     fn new() -> Self {
-        Found { key: Out::new(), distance: Out::new(), tried: Out::new() }
+        Found { key: Out::new(), distance: Out::new(), place: Out::new(), tried: Out::new() }
     }
 
-    /// Where nothing is found, the key and the distance are 0. What one finds who trusts a tree may be a NaN.
-    fn differences(mut self, answer: Option<Lookup>) -> [Option<String>; 3] {
-        let (key, distance, tried) = match answer {
-            Some(Lookup::Found { key, distance, tried }) => (Some([key]), Some([one_nan(distance)]), Some([tried])),
-            Some(Lookup::Nothing { tried }) => (Some([0]), Some([0]), Some([tried])),
-            None => (None, None, None),
-        };
+    fn lend(&mut self) -> (&mut u64, &mut f32, &mut u64, &mut u32) {
+        (self.key.place(), self.distance.float(), self.place.place(), self.tried.place())
+    }
+
+    /// Where nothing is found, the key, the distance and the place are 0. What one finds who trusts a tree may be a NaN.
+    fn differences(mut self, answer: Option<Lookup>) -> [Option<String>; 4] {
+        let out = answer.map(|answer| match answer {
+            Lookup::Found { key, distance, place, tried } => (key, one_nan(distance), place, tried),
+            Lookup::Nothing { tried } => (0, 0, 0, tried),
+        });
         self.distance.settle(one_nan);
         [
-            self.key.difference(key, "key found"),
-            self.distance.difference(distance, "distance found"),
-            self.tried.difference(tried, "number tried"),
+            self.key.difference(out.map(|(key, ..)| [key]), "key found"),
+            self.distance.difference(out.map(|(_, distance, ..)| [distance]), "distance found"),
+            self.place.difference(out.map(|(_, _, place, _)| [place]), "place found"),
+            self.tried.difference(out.map(|(.., tried)| [tried]), "number tried"),
         ]
     }
 }
 
-/// The places for a dual cell.
+/// The out parameters for a dual cell.
 struct Cell {
     keys: Out<u64, 8>,
     distances: Out<u32, 8>,
+    places: Out<u64, 8>,
     tried: Out<u32>,
 }
 
 impl Cell {
     fn new() -> Self {
-        Cell { keys: Out::new(), distances: Out::new(), tried: Out::new() }
+        Cell { keys: Out::new(), distances: Out::new(), places: Out::new(), tried: Out::new() }
     }
 
-    fn differences(mut self, answer: Option<DualCell>) -> [Option<String>; 3] {
+    fn lend(&mut self) -> (&mut [u64; 8], &mut [f32; 8], &mut [u64; 8], &mut u32) {
+        (self.keys.all(), self.distances.floats(), self.places.all(), self.tried.place())
+    }
+
+    fn differences(mut self, answer: Option<DualCell>) -> [Option<String>; 4] {
         self.distances.settle(one_nan);
         [
             self.keys.difference(answer.map(|cell| cell.keys), "eight keys"),
             self.distances.difference(answer.map(|cell| cell.distances.map(one_nan)), "eight distances"),
+            self.places.difference(answer.map(|cell| cell.places), "eight places"),
             self.tried.difference(answer.map(|cell| [cell.tried]), "number tried"),
         ]
     }
@@ -78,7 +89,14 @@ impl Cell {
 /// Calls a function of the boundary with some of a tree's tables first, each a pointer and a length.
 macro_rules! with_tables {
     ($call:ident, $given:expr, [$($table:ident),*] $(, $more:expr)*) => {
-        unsafe { $call($($given.$table.part().as_ptr().cast(), $given.$table.part().len(),)* $($more),*) }
+        unsafe { $call($($given.$table.part().as_ptr().cast(), $given.$table.part().len() as u64,)* $($more),*) }
+    };
+}
+
+/// The same with the three of the nodes.
+macro_rules! with_nodes {
+    ($call:ident, $given:expr $(, $more:expr)*) => {
+        with_tables!($call, $given, [keys, distances, firsts] $(, $more)*)
     };
 }
 
@@ -127,7 +145,7 @@ impl Given {
         let walk = || {
             let (walk, keys) = (self.descent.walk(), self.tables.keys.len());
             assert!(walk.placed.len() <= most_vertices(keys) && walk.cells <= 1 + 64 * (keys / 8), "{}", self.told());
-            assert!(walk.placed.iter().all(|at| at.places.iter().all(|&place| place < keys)), "{}", self.told());
+            assert!(walk.placed.iter().all(|at| at.places.iter().all(|&place| place < keys as u64)), "{}", self.told());
             Rc::new(walk)
         };
         self.walk.borrow_mut().get_or_insert_with(walk).clone()
@@ -168,16 +186,15 @@ impl Given {
 
     fn look_up(&self, case: &mut Case) -> Checked {
         let (key, mut found) = (self.some_key(&mut case.random), Found::new());
-        let Found { key: place, distance, tried } = &mut found;
-        let said = with_tree!(mittenhelm_look_up, self, key, place.place(), distance.float(), tried.place());
+        let (node, distance, place, tried) = found.lend();
+        let said = with_tree!(mittenhelm_look_up, self, key, node, distance, place, tried);
         self.judge_look_up(case, "look_up", key, said, found, self.reading.look_up(key))
     }
 
     fn look_up_trusting(&self, case: &mut Case) -> Checked {
         let (key, mut found) = (self.some_key(&mut case.random), Found::new());
-        let Found { key: place, distance, tried } = &mut found;
-        let (place, distance, tried) = (place.place(), distance.float(), tried.place());
-        let said = with_tables!(mittenhelm_look_up_trusting, self, [keys, distances, firsts], key, place, distance, tried);
+        let (node, distance, place, tried) = found.lend();
+        let said = with_nodes!(mittenhelm_look_up_trusting, self, key, node, distance, place, tried);
         self.judge_look_up(case, "look_up_trusting", key, said, found, self.descent.look_up_trusting(key))
     }
 
@@ -224,9 +241,7 @@ impl Given {
             case,
             "list",
             self.vertices.len(),
-            |start, v, m, count| {
-                with_tree!(mittenhelm_list, self, start, v.as_mut_ptr(), v.len(), m.as_mut_ptr(), m.len(), count)
-            },
+            |start, vertices, v, levels, l, count| with_tree!(mittenhelm_list, self, start, vertices, v, levels, l, count),
             |start, vertices, levels| self.reading.list(start, vertices, levels),
         )
     }
@@ -237,9 +252,8 @@ impl Given {
             case,
             "list_trusting",
             walked.len(),
-            |start, v, m, count| {
-                let (vertices, levels) = (v.as_mut_ptr(), m.as_mut_ptr());
-                with_tables!(mittenhelm_list_trusting, self, [keys, firsts], start, vertices, v.len(), levels, m.len(), count)
+            |start, vertices, v, levels, l, count| {
+                with_tables!(mittenhelm_list_trusting, self, [keys, firsts], start, vertices, v, levels, l, count)
             },
             |start, vertices, levels| write_list(&walked, start, vertices, levels),
         )
@@ -251,16 +265,17 @@ impl Given {
         case: &mut Case,
         name: &'static str,
         count: usize,
-        ours: impl Fn(usize, &mut [u64], &mut [u8], &mut usize) -> u32,
+        ours: impl Fn(u64, *mut u64, u64, *mut u8, u64, &mut u64) -> u32,
         model: impl Fn(usize, &mut [u64], &mut [u8]) -> Answer<usize>,
     ) -> Checked {
         let (start, [vertices, levels]) = self.some_room(count, &mut case.random);
         let (mut vertices, mut levels) = (vertices_before(vertices), levels_before(levels));
-        let (mut our_vertices, mut our_levels, mut count) = (Fenced::new(&vertices), Fenced::new(&levels), Out::<usize>::new());
-        let said = ours(start, our_vertices.lend(), our_levels.lend(), count.place());
+        let (mut our_vertices, mut our_levels, mut count) = (Fenced::new(&vertices), Fenced::new(&levels), Out::<u64>::new());
+        let (v, l) = (our_vertices.lend(), our_levels.lend());
+        let said = ours(start as u64, v.as_mut_ptr(), v.len() as u64, l.as_mut_ptr(), l.len() as u64, count.place());
         let expected = model(start, &mut vertices, &mut levels);
         let differences = self.with_tables([
-            count.difference(expected.ok().map(|count| [count]), "count"),
+            count.difference(expected.ok().map(|count| [count as u64]), "count"),
             our_vertices.difference(&vertices, "vertices"),
             our_levels.difference(&levels, "levels"),
         ]);
@@ -292,12 +307,12 @@ impl Given {
         let (mut our_vertices, mut our_levels, mut our_places) =
             (Fenced::new(&vertices), Fenced::new(&levels), Fenced::new(&places));
         let (v, l, p) = (our_vertices.lend(), our_levels.lend(), our_places.lend());
-        let (v_length, l_length, p_length) = (v.len(), l.len(), p.len());
+        let (v_length, l_length, p_length) = (v.len() as u64, l.len() as u64, p.len() as u64);
         let (v, l, p) = (v.as_mut_ptr(), l.as_mut_ptr(), p.as_mut_ptr());
         let said = with_tables!(mittenhelm_cells_trusting, self, [keys, firsts], from, v, v_length, l, l_length, p, p_length);
         let expected = write_placed(placed, from, &mut vertices, &mut levels, &mut places);
         let differences = self.with_tables([
-            same(&said, &expected, "count"),
+            same(&said, &(expected as u64), "count"),
             our_vertices.difference(&vertices, "vertices"),
             our_levels.difference(&levels, "levels"),
             our_places.difference(&places, "places"),
@@ -307,12 +322,12 @@ impl Given {
         case.judge("cells_trusting", 0, Ok(way), &differences, || format!("{}, {from:#x}, tables of {lengths:?}", self.told()))
     }
 
-    /// A listed vertex, a corner of a cell in or below the tree, or any number; with its level or another one.
-    fn some_vertex(&self, random: &mut Random) -> (u64, u32) {
+    /// A vertex that is listed, a corner of a cell in or below the tree, or any number; with its level or another one.
+    fn some_vertex(&self, listed: &[(u64, u32)], random: &mut Random) -> (u64, u32) {
         match random.below(4) {
             0 => vertex_and_level(random),
-            1 if !self.vertices.is_empty() => {
-                let (vertex, level) = random.one_of(&self.vertices);
+            1 if !listed.is_empty() => {
+                let (vertex, level) = random.one_of(listed);
                 (vertex, or_edge(random.level(level), random))
             }
             _ => {
@@ -324,19 +339,22 @@ impl Given {
     }
 
     fn dual_cell(&self, case: &mut Case) -> Checked {
-        let ((vertex, level), mut cell) = (self.some_vertex(&mut case.random), Cell::new());
-        let Cell { keys: eight, distances: floats, tried } = &mut cell;
-        let said = with_tree!(mittenhelm_dual_cell, self, vertex, level, eight.all(), floats.floats(), tried.place());
+        let ((vertex, level), mut cell) = (self.some_vertex(&self.vertices, &mut case.random), Cell::new());
+        let (keys, distances, places, tried) = cell.lend();
+        let said = with_tree!(mittenhelm_dual_cell, self, vertex, level, keys, distances, places, tried);
         self.judge_dual_cell(case, "dual_cell", (vertex, level), said, cell, self.reading.dual_cell(vertex, level))
     }
 
     fn dual_cell_trusting(&self, case: &mut Case) -> Checked {
-        let ((vertex, level), mut cell) = (self.some_vertex(&mut case.random), Cell::new());
-        let Cell { keys: eight, distances: floats, tried } = &mut cell;
-        let (eight, floats, tried) = (eight.all(), floats.floats(), tried.place());
-        let said =
-            with_tables!(mittenhelm_dual_cell_trusting, self, [keys, distances, firsts], vertex, level, eight, floats, tried);
+        let walk = self.walk();
+        let ((vertex, level), mut cell) = (self.some_vertex(&walk.vertices(), &mut case.random), Cell::new());
+        let (keys, distances, places, tried) = cell.lend();
+        let said = with_nodes!(mittenhelm_dual_cell_trusting, self, vertex, level, keys, distances, places, tried);
         let expected = self.descent.dual_cell_trusting(vertex, level);
+        // A listed vertex has the places that it is handed out with.
+        if let Some(at) = walk.placed.iter().find(|at| (at.vertex, at.level) == (vertex, level)) {
+            assert_eq!(expected.map(|cell| cell.places), Ok(at.places), "{vertex:#x}, {level}: {}", self.told());
+        }
         self.judge_dual_cell(case, "dual_cell_trusting", (vertex, level), said, cell, expected)
     }
 

@@ -2,6 +2,10 @@
 //!
 //! The cube goes from 0 to 1 on each axis. A cell key of level L (0 to 21) is a number from 8^L up to 2 x 8^L - 1: a leading
 //! one, then bits of z, y and x in turn, the lowest being x.
+//!
+//! A place says where in a tree's keys, distances and first children a node stands. It is a `u64`, and so is every length behind the
+//! boundary: the proved code takes 8 bytes on every host, where a `usize` may have 4. So the calls write places straight into what is
+//! lent to them.
 
 use std::error::Error;
 use std::fmt;
@@ -27,17 +31,17 @@ pub mod raw {
         pub fn mittenhelm_start(
             bound: u32,
             keys: *const u64,
-            keys_length: usize,
+            keys_length: u64,
             distances: *const f32,
-            distances_length: usize,
+            distances_length: u64,
             firsts: *const u16,
-            firsts_length: usize,
+            firsts_length: u64,
             leaves: *const u64,
-            leaves_length: usize,
+            leaves_length: u64,
             queue: *const u64,
-            queue_length: usize,
+            queue_length: u64,
             state: *mut u64,
-            state_length: usize,
+            state_length: u64,
             key: &mut u64,
             x: &mut f32,
             y: &mut f32,
@@ -46,17 +50,17 @@ pub mod raw {
         ) -> u32;
         pub fn mittenhelm_distance(
             state: *mut u64,
-            state_length: usize,
+            state_length: u64,
             keys: *mut u64,
-            keys_length: usize,
+            keys_length: u64,
             distances: *mut f32,
-            distances_length: usize,
+            distances_length: u64,
             firsts: *mut u16,
-            firsts_length: usize,
+            firsts_length: u64,
             leaves: *mut u64,
-            leaves_length: usize,
+            leaves_length: u64,
             queue: *mut u64,
-            queue_length: usize,
+            queue_length: u64,
             distance: f32,
             key: &mut u64,
             x: &mut f32,
@@ -66,108 +70,112 @@ pub mod raw {
         ) -> u32;
         pub fn mittenhelm_sound(
             keys: *const u64,
-            keys_length: usize,
+            keys_length: u64,
             distances: *const f32,
-            distances_length: usize,
+            distances_length: u64,
             firsts: *const u16,
-            firsts_length: usize,
+            firsts_length: u64,
             leaves: *const u64,
-            leaves_length: usize,
+            leaves_length: u64,
         ) -> u8;
         pub fn mittenhelm_look_up(
             keys: *const u64,
-            keys_length: usize,
+            keys_length: u64,
             distances: *const f32,
-            distances_length: usize,
+            distances_length: u64,
             firsts: *const u16,
-            firsts_length: usize,
+            firsts_length: u64,
             leaves: *const u64,
-            leaves_length: usize,
+            leaves_length: u64,
             key: u64,
             found: &mut u64,
             distance: &mut f32,
+            place: &mut u64,
             tried: &mut u32,
         ) -> u32;
         pub fn mittenhelm_list(
             keys: *const u64,
-            keys_length: usize,
+            keys_length: u64,
             distances: *const f32,
-            distances_length: usize,
+            distances_length: u64,
             firsts: *const u16,
-            firsts_length: usize,
+            firsts_length: u64,
             leaves: *const u64,
-            leaves_length: usize,
-            start: usize,
+            leaves_length: u64,
+            start: u64,
             vertices: *mut u64,
-            vertices_length: usize,
+            vertices_length: u64,
             levels: *mut u8,
-            levels_length: usize,
-            count: &mut usize,
+            levels_length: u64,
+            count: &mut u64,
         ) -> u32;
         pub fn mittenhelm_dual_cell(
             keys: *const u64,
-            keys_length: usize,
+            keys_length: u64,
             distances: *const f32,
-            distances_length: usize,
+            distances_length: u64,
             firsts: *const u16,
-            firsts_length: usize,
+            firsts_length: u64,
             leaves: *const u64,
-            leaves_length: usize,
+            leaves_length: u64,
             vertex: u64,
             level: u32,
             cell_keys: &mut [u64; 8],
             cell_distances: &mut [f32; 8],
+            cell_places: &mut [u64; 8],
             tried: &mut u32,
         ) -> u32;
         pub fn mittenhelm_slab(vertex: u64, level: u32, exponent: u32, slab: &mut u32) -> u32;
         pub fn mittenhelm_look_up_trusting(
             keys: *const u64,
-            keys_length: usize,
+            keys_length: u64,
             distances: *const f32,
-            distances_length: usize,
+            distances_length: u64,
             firsts: *const u16,
-            firsts_length: usize,
+            firsts_length: u64,
             key: u64,
             found: &mut u64,
             distance: &mut f32,
+            place: &mut u64,
             tried: &mut u32,
         ) -> u32;
         pub fn mittenhelm_list_trusting(
             keys: *const u64,
-            keys_length: usize,
+            keys_length: u64,
             firsts: *const u16,
-            firsts_length: usize,
-            start: usize,
+            firsts_length: u64,
+            start: u64,
             vertices: *mut u64,
-            vertices_length: usize,
+            vertices_length: u64,
             levels: *mut u8,
-            levels_length: usize,
-            count: &mut usize,
+            levels_length: u64,
+            count: &mut u64,
         ) -> u32;
         pub fn mittenhelm_cells_trusting(
             keys: *const u64,
-            keys_length: usize,
+            keys_length: u64,
             firsts: *const u16,
-            firsts_length: usize,
+            firsts_length: u64,
             from: u64,
             vertices: *mut u64,
-            vertices_length: usize,
+            vertices_length: u64,
             levels: *mut u8,
-            levels_length: usize,
-            places: *mut usize,
-            places_length: usize,
-        ) -> usize;
+            levels_length: u64,
+            places: *mut u64,
+            places_length: u64,
+        ) -> u64;
         pub fn mittenhelm_dual_cell_trusting(
             keys: *const u64,
-            keys_length: usize,
+            keys_length: u64,
             distances: *const f32,
-            distances_length: usize,
+            distances_length: u64,
             firsts: *const u16,
-            firsts_length: usize,
+            firsts_length: u64,
             vertex: u64,
             level: u32,
             cell_keys: &mut [u64; 8],
             cell_distances: &mut [f32; 8],
+            cell_places: &mut [u64; 8],
             tried: &mut u32,
         ) -> u32;
     }
@@ -369,17 +377,17 @@ pub fn start(bound: u32, tables: &Tables) -> Result<(State, Request), Refusal> {
         raw::mittenhelm_start(
             bound,
             tables.keys.as_ptr(),
-            tables.keys.len(),
+            tables.keys.len() as u64,
             tables.distances.as_ptr(),
-            tables.distances.len(),
+            tables.distances.len() as u64,
             tables.firsts.as_ptr(),
-            tables.firsts.len(),
+            tables.firsts.len() as u64,
             tables.leaves.as_ptr(),
-            tables.leaves.len(),
+            tables.leaves.len() as u64,
             tables.queue.as_ptr(),
-            tables.queue.len(),
+            tables.queue.len() as u64,
             state.as_mut_ptr(),
-            state.len(),
+            state.len() as u64,
             &mut key,
             &mut x,
             &mut y,
@@ -398,17 +406,17 @@ pub fn distance(state: &mut State, tables: &mut Tables, distance: f32) -> Result
     let number = unsafe {
         raw::mittenhelm_distance(
             state.0.as_mut_ptr(),
-            state.0.len(),
+            state.0.len() as u64,
             tables.keys.as_mut_ptr(),
-            tables.keys.len(),
+            tables.keys.len() as u64,
             tables.distances.as_mut_ptr(),
-            tables.distances.len(),
+            tables.distances.len() as u64,
             tables.firsts.as_mut_ptr(),
-            tables.firsts.len(),
+            tables.firsts.len() as u64,
             tables.leaves.as_mut_ptr(),
-            tables.leaves.len(),
+            tables.leaves.len() as u64,
             tables.queue.as_mut_ptr(),
-            tables.queue.len(),
+            tables.queue.len() as u64,
             distance,
             &mut key,
             &mut x,
@@ -423,7 +431,14 @@ pub fn distance(state: &mut State, tables: &mut Tables, distance: f32) -> Result
 /// Calls a function of the boundary with some of a tree's tables first, each a pointer and a length.
 macro_rules! with_tables {
     ($call:ident, $tree:expr, [$($table:ident),*] $(, $more:expr)*) => {
-        unsafe { raw::$call($($tree.$table.as_ptr(), $tree.$table.len(),)* $($more),*) }
+        unsafe { raw::$call($($tree.$table.as_ptr(), $tree.$table.len() as u64,)* $($more),*) }
+    };
+}
+
+/// The same with the three of the nodes.
+macro_rules! with_nodes {
+    ($call:ident, $tree:expr $(, $more:expr)*) => {
+        with_tables!($call, $tree, [keys, distances, firsts] $(, $more)*)
     };
 }
 
@@ -448,28 +463,36 @@ pub struct Tree<'a> {
     pub leaves: &'a [u64],
 }
 
-/// The deepest ancestor of a cell key, which may be the key itself, and how many keys were tried.
+/// The deepest ancestor of a cell key, which may be the key itself, and how many keys were tried. Whoever keeps data beside the node
+/// tables finds the node's at its place, without a search.
 #[derive(Clone, Copy, Debug, PartialEq)]
 pub enum Lookup {
-    Found { key: u64, distance: f32, tried: u32 },
+    Found { key: u64, distance: f32, place: u64, tried: u32 },
     Nothing { tried: u32 },
 }
 
-/// The nodes around a vertex, in corner order (bit 0 is x, bit 1 y, bit 2 z), and how many keys were tried for all eight.
+/// The nodes around a vertex with their places, and how many keys were tried for all eight.
+///
+/// Entry w is the cell that has the vertex at its corner w (bit 0 is x, bit 1 y, bit 2 z), or the node found over that cell: so entry 0
+/// lies above the vertex on all axes, and entry 7 below on all. An example: the root and its eight children have the keys 1, 8, 9, .., 15
+/// at the places 0 to 8. The vertex in the middle of the cube, 0xf000000000000000 at level 1, then has the dual cell with the keys 15,
+/// 14, .., 8 at the places 8, 7, .., 1. Entry 0 is 15, the child above on all axes, whose corner 0 is the vertex; entry 7 is 8, whose
+/// corner 7 is.
 #[derive(Clone, Copy, Debug, PartialEq)]
 pub struct DualCell {
     pub keys: [u64; 8],
     pub distances: [f32; 8],
+    pub places: [u64; 8],
     pub tried: u32,
 }
 
-/// What a lookup answers that is handed its places.
-fn looked_up(look_up: impl FnOnce(&mut u64, &mut f32, &mut u32) -> u32) -> Result<Lookup, Refusal> {
-    let (mut found, mut distance, mut tried) = (0, 0.0, 0);
-    let number = look_up(&mut found, &mut distance, &mut tried);
+/// What a lookup answers that is handed its out parameters.
+fn looked_up(look_up: impl FnOnce(&mut u64, &mut f32, &mut u64, &mut u32) -> u32) -> Result<Lookup, Refusal> {
+    let (mut found, mut distance, mut place, mut tried) = (0, 0.0, 0, 0);
+    let number = look_up(&mut found, &mut distance, &mut place, &mut tried);
     let answer = match found {
         0 => Lookup::Nothing { tried },
-        key => Lookup::Found { key, distance, tried },
+        key => Lookup::Found { key, distance, place, tried },
     };
     accepted(number, answer)
 }
@@ -478,17 +501,18 @@ fn looked_up(look_up: impl FnOnce(&mut u64, &mut f32, &mut u32) -> u32) -> Resul
 fn listed(
     vertices: &mut [u64],
     levels: &mut [u8],
-    list: impl FnOnce(*mut u64, usize, *mut u8, usize, &mut usize) -> u32,
+    list: impl FnOnce(*mut u64, u64, *mut u8, u64, &mut u64) -> u32,
 ) -> Result<usize, Refusal> {
     let mut count = 0;
-    let number = list(vertices.as_mut_ptr(), vertices.len(), levels.as_mut_ptr(), levels.len(), &mut count);
-    accepted(number, count)
+    let number = list(vertices.as_mut_ptr(), vertices.len() as u64, levels.as_mut_ptr(), levels.len() as u64, &mut count);
+    // No greater than the tables' lengths.
+    accepted(number, count as usize)
 }
 
-/// What a call for a dual cell answers that is handed its places.
-fn around(dual_cell: impl FnOnce(&mut [u64; 8], &mut [f32; 8], &mut u32) -> u32) -> Result<DualCell, Refusal> {
-    let mut cell = DualCell { keys: [0; 8], distances: [0.0; 8], tried: 0 };
-    let number = dual_cell(&mut cell.keys, &mut cell.distances, &mut cell.tried);
+/// What a call for a dual cell answers that is handed its out parameters.
+fn around(dual_cell: impl FnOnce(&mut [u64; 8], &mut [f32; 8], &mut [u64; 8], &mut u32) -> u32) -> Result<DualCell, Refusal> {
+    let mut cell = DualCell { keys: [0; 8], distances: [0.0; 8], places: [0; 8], tried: 0 };
+    let number = dual_cell(&mut cell.keys, &mut cell.distances, &mut cell.places, &mut cell.tried);
     accepted(number, cell)
 }
 
@@ -519,7 +543,7 @@ impl<'a> Tree<'a> {
     /// The deepest present of a cell key and its ancestors of level 1 or more.
     #[inline]
     pub fn look_up(&self, key: u64) -> Result<Lookup, Refusal> {
-        looked_up(|found, distance, tried| with_tree!(mittenhelm_look_up, self, key, found, distance, tried))
+        looked_up(|found, distance, place, tried| with_tree!(mittenhelm_look_up, self, key, found, distance, place, tried))
     }
 
     /// Writes every vertex with its level, ascending, from a start place on into both tables. The answer is their number. Where both
@@ -527,14 +551,16 @@ impl<'a> Tree<'a> {
     #[inline]
     pub fn list(&self, start: usize, vertices: &mut [u64], levels: &mut [u8]) -> Result<usize, Refusal> {
         listed(vertices, levels, |vertices, v, levels, l, count| {
-            with_tree!(mittenhelm_list, self, start, vertices, v, levels, l, count)
+            with_tree!(mittenhelm_list, self, start as u64, vertices, v, levels, l, count)
         })
     }
 
     /// The deepest ancestors of the cells of the level on the eight sides of an inner vertex.
     #[inline]
     pub fn dual_cell(&self, vertex: u64, level: u32) -> Result<DualCell, Refusal> {
-        around(|keys, distances, tried| with_tree!(mittenhelm_dual_cell, self, vertex, level, keys, distances, tried))
+        around(|keys, distances, places, tried| {
+            with_tree!(mittenhelm_dual_cell, self, vertex, level, keys, distances, places, tried)
+        })
     }
 }
 
@@ -552,33 +578,33 @@ impl<'a> SoundTree<'a> {
 
     /// As `Tree::look_up`, without a check of the tree.
     pub fn look_up(&self, key: u64) -> Result<Lookup, Refusal> {
-        looked_up(|found, distance, tried| {
-            with_tables!(mittenhelm_look_up_trusting, self.tree, [keys, distances, firsts], key, found, distance, tried)
+        looked_up(|found, distance, place, tried| {
+            with_nodes!(mittenhelm_look_up_trusting, self.tree, key, found, distance, place, tried)
         })
     }
 
     /// As `Tree::list`, without a check of the tree.
     pub fn list(&self, start: usize, vertices: &mut [u64], levels: &mut [u8]) -> Result<usize, Refusal> {
         listed(vertices, levels, |vertices, v, levels, l, count| {
-            with_tables!(mittenhelm_list_trusting, self.tree, [keys, firsts], start, vertices, v, levels, l, count)
+            with_tables!(mittenhelm_list_trusting, self.tree, [keys, firsts], start as u64, vertices, v, levels, l, count)
         })
     }
 
     /// Writes the vertices that are no less than `from`, ascending and each with its level, as many as have room in all three
-    /// tables, and answers how many. `places` takes eight for each: where in the tree's keys and distances the nodes of its dual
-    /// cell stand, in corner order. Who wants all and has room for one at least begins with 0, goes on with the last vertex + 1,
-    /// and is done when fewer came than have room.
-    pub fn cells(&self, from: u64, vertices: &mut [u64], levels: &mut [u8], places: &mut [usize]) -> usize {
-        let (v, l, p) = (vertices.len(), levels.len(), places.len());
+    /// tables, and answers how many. `places` takes eight for each: those of its `DualCell`, in the same order. Who wants all and has
+    /// room for one at least begins with 0, goes on with the last vertex + 1, and is done when fewer came than have room.
+    pub fn cells(&self, from: u64, vertices: &mut [u64], levels: &mut [u8], places: &mut [u64]) -> usize {
+        let (v, l, p) = (vertices.len() as u64, levels.len() as u64, places.len() as u64);
         let (vertices, levels, places) = (vertices.as_mut_ptr(), levels.as_mut_ptr(), places.as_mut_ptr());
-        with_tables!(mittenhelm_cells_trusting, self.tree, [keys, firsts], from, vertices, v, levels, l, places, p)
+        let count = with_tables!(mittenhelm_cells_trusting, self.tree, [keys, firsts], from, vertices, v, levels, l, places, p);
+        // No greater than the tables' lengths.
+        count as usize
     }
 
     /// As `Tree::dual_cell`, without a check of the tree.
     pub fn dual_cell(&self, vertex: u64, level: u32) -> Result<DualCell, Refusal> {
-        around(|keys, distances, tried| {
-            let tree = self.tree;
-            with_tables!(mittenhelm_dual_cell_trusting, tree, [keys, distances, firsts], vertex, level, keys, distances, tried)
+        around(|keys, distances, places, tried| {
+            with_nodes!(mittenhelm_dual_cell_trusting, self.tree, vertex, level, keys, distances, places, tried)
         })
     }
 }

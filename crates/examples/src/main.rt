@@ -330,6 +330,7 @@ fn finds(
     leaves: &[u64],
     key: u64,
     deepest: u64,
+    at: usize,
     tries: u32,
 ) -> bool {
     let answer = tree::look_up(keys, distances, firsts, leaves, key);
@@ -337,8 +338,9 @@ fn finds(
         Lookup::Found {
             key: k,
             distance: _,
+            place: p,
             tried: n,
-        } => k == deepest && n == tries,
+        } => k == deepest && p == at && n == tries,
         Lookup::Nothing { tried: _ } => false,
         Lookup::Refused(_) => false,
     }
@@ -353,10 +355,13 @@ fn far_corner(key: u64) -> u64 {
     }
 }
 
-fn same_eight(found: [u64; 8], eight: [u64; 8]) -> bool {
+fn same_eight(found: [u64; 8], places: [usize; 8], eight: [u64; 8], at: [usize; 8]) -> bool {
     let mut i = 0;
     while i < 8 {
         if found[i] != eight[i] {
+            return false;
+        }
+        if places[i] != at[i] {
             return false;
         }
         i += 1;
@@ -364,7 +369,7 @@ fn same_eight(found: [u64; 8], eight: [u64; 8]) -> bool {
     true
 }
 
-// Whether the dual cell of that corner has these nodes.
+// Whether the dual cell of that corner has these nodes, at these places.
 fn meet(
     keys: &[u64],
     distances: &[f32],
@@ -372,13 +377,15 @@ fn meet(
     leaves: &[u64],
     key: u64,
     eight: [u64; 8],
+    at: [usize; 8],
     tries: u32,
 ) -> bool {
     let cell = dual::dual_cell(keys, distances, firsts, leaves, far_corner(key), 3);
     let found = cell.keys;
+    let places = cell.places;
     let answer = cell.tried;
     match answer {
-        Tried::Keys(n) => n == tries && same_eight(found, eight),
+        Tried::Keys(n) => n == tries && same_eight(found, places, eight, at),
         Tried::Refused(_) => false,
     }
 }
@@ -398,10 +405,13 @@ fn all_zero(eight: [f32; 8]) -> bool {
 fn is_empty(cell: Dual, number: u32) -> bool {
     let found = cell.keys;
     let theirs = cell.distances;
+    let places = cell.places;
     let answer = cell.tried;
     match answer {
         Tried::Keys(_) => false,
-        Tried::Refused(k) => k == number && same_eight(found, [0u64; 8]) && all_zero(theirs),
+        Tried::Refused(k) => {
+            k == number && same_eight(found, places, [0u64; 8], [0usize; 8]) && all_zero(theirs)
+        }
     }
 }
 
@@ -420,18 +430,20 @@ fn say_of_tree(keys: &[u64], distances: &[f32], firsts: &[u16], leaves: &[u64]) 
         tree::sound(keys, distances, firsts, leaves),
     );
     say(
-        b"that tree, key 4152: 519; 2 tried",
-        finds(keys, distances, firsts, leaves, 4152, 519, 2),
+        b"that tree, key 4152: 519 at place 80; 2 tried",
+        finds(keys, distances, firsts, leaves, 4152, 519, 80, 2),
     );
     let outer = [71, 70, 69, 68, 67, 66, 65, 519];
+    let outer_at = [16, 15, 14, 13, 12, 11, 10, 80];
     say(
-        b"that tree, vertex of 519, corner 7, level 3: 71, 70, 69, 68, 67, 66, 65, 519; 15 tried",
-        meet(keys, distances, firsts, leaves, 519, outer, 15),
+        b"that tree, vertex of 519, corner 7, level 3: 71, 70, 69, 68, 67, 66, 65, 519 at 16 down to 10, 80; 15 tried",
+        meet(keys, distances, firsts, leaves, 519, outer, outer_at, 15),
     );
     let inner = [519, 518, 517, 516, 515, 514, 513, 512];
+    let inner_at = [80, 79, 78, 77, 76, 75, 74, 73];
     say(
-        b"that tree, vertex of 512, corner 7, level 3: 519 down to 512; 8 tried",
-        meet(keys, distances, firsts, leaves, 512, inner, 8),
+        b"that tree, vertex of 512, corner 7, level 3: 519 down to 512 at 80 down to 73; 8 tried",
+        meet(keys, distances, firsts, leaves, 512, inner, inner_at, 8),
     );
     say(
         b"that tree, 0 for a vertex: 4, and nothing in the arrays",

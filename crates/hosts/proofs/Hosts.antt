@@ -156,16 +156,16 @@ module _ {D : ℕ} {tree : Tree} (sound : Sound tree) (h : Reading D tree) where
   full start count was k before left (list.Count n, says, (z, _)) some = absurd (some z)
   full start count was k before left (list.Refused m, says, (z, _)) some = z ∙ refused-12 start m before left says
 
-  eight-entries : (v k : ℕ) (then out : Eight) (a : Dual) → LeafCell D tree v a → HandsEight (a .keys) (a .distances) (a .tried) then k out
+  eight-entries : (v k : ℕ) (then out : Eight) (a : Dual) → LeafCell D tree v a → HandsEight (a .keys) (a .distances) (a .places) (a .tried) then k out
       → (k ≡ 0) × LeafCell D tree v (dualIn out)
   eight-entries v k then out a c = go (a .tried) refl
     where
-      go : (b : Tried) → a .tried ≡ b → HandsEight (a .keys) (a .distances) b then k out → (k ≡ 0) × LeafCell D tree v (dualIn out)
+      go : (b : Tried) → a .tried ≡ b → HandsEight (a .keys) (a .distances) (a .places) b then k out → (k ≡ 0) × LeafCell D tree v (dualIn out)
       go (tried.Keys n) e (z, o) = (
         z,
         record {
           answered = λ m f. let z : _≡_ {A = ℕ} 0 1 = cc in omega arith;
-          entry = subst (λ (x : Eight). (i : ℕ) → i < 8 → HoldsAlone D tree (sideOf D v i) (getD (x .keys) i 0) (getD (x .distances) i nan)) (sym o) (c .entry);
+          entry = subst (λ (x : Eight). (i : ℕ) → i < 8 → HoldsAlone D tree (sideOf D v i) (getD (x .keys) i 0) (getD (x .distances) i nan) (getD (x .places) i 0)) (sym o) (c .entry);
         },
       )
       go (tried.Refused m) e _ = absurd (c .answered m e)

@@ -81,7 +81,7 @@ HostsQueueOf64 =
 
 -- What is handed over as eight keys, eight distances and the number tried.
 abbrev pub dualIn : Eight → Dual
-dualIn out = record { keys = out .keys; distances = out .distances; tried = Keys (out .tried) }
+dualIn out = record { keys = out .keys; distances = out .distances; places = out .places; tried = Keys (out .tried) }
 
 -- What a host reads from a tree: `HandsList` and `HandsDual` are what the exported calls promise.
 pub record HostsReading (D : ℕ) (tree : Tree) : Type 0 where
@@ -89,7 +89,8 @@ pub record HostsReading (D : ℕ) (tree : Tree) : Type 0 where
   pub list : (start count was : ℕ) (before left : Lists) → HandsList tree start before left was 0 count
       → ListsCorners (tree .leaves) (part start count (left .vertices)) (part start count (left .levels))
   pub room : (start count was k : ℕ) (before left : Lists) → HandsList tree start before left was k count → (k ≡ 0 → ⊥) → k ≡ 12
-  -- For the dual cell of each listed vertex 0 is returned, and entry i is the one leaf that holds the finest cell on side i, with its distance.
+  -- For the dual cell of each listed vertex 0 is returned, and entry i is the one leaf that holds the finest cell on side i, with its distance and
+  -- place.
   pub dual : (start count was : ℕ) (before left : Lists) → HandsList tree start before left was 0 count
       → (j k : ℕ) → j < count → (then out : Eight)
       → HandsDual tree (getD (left .levels) (start + j) 0) (getD (left .vertices) (start + j) 0) then k out

@@ -27,23 +27,23 @@ pub sound-one : (t : Tree) → OnlyOne (λ (r : Bool). Decides r (Sound t))
 sound-one t = sound-answer-one t
 
 pub hand-found-one : (a : Lookup) (was : Found) → OnlyOne (λ (r : ℕ × Found). HandsFound a was (r .0) (r .1))
-hand-found-one (lookup.Found k d n) was = both 0 (foundAt k d n)
-hand-found-one (lookup.Nothing n) was = both 0 (foundAt 0 (ofBits binary32 0) n)
+hand-found-one (lookup.Found k d p n) was = both 0 (foundAt k d p n)
+hand-found-one (lookup.Nothing n) was = both 0 (foundAt 0 (ofBits binary32 0) 0 n)
 hand-found-one (lookup.Refused k) was = both k was
 
 pub look-up-one : (t : Tree) (k : ℕ) (was : Found) → OnlyOne (λ (r : ℕ × Found). HandsLookup t k was (r .0) (r .1))
 look-up-one t k was = handed-on (LookupSays t k) (λ a r. HandsFound a was (r .0) (r .1)) (lookup-answer-one t k) (λ a. hand-found-one a was)
 
-eight-one : (a : Dual) (b : Tried) (was : Eight) → OnlyOne (λ (r : ℕ × Eight). HandsEight (a .keys) (a .distances) b was (r .0) (r .1))
-eight-one a (tried.Keys n) was = both 0 (eightAt (a .keys) (a .distances) n)
+eight-one : (a : Dual) (b : Tried) (was : Eight) → OnlyOne (λ (r : ℕ × Eight). HandsEight (a .keys) (a .distances) (a .places) b was (r .0) (r .1))
+eight-one a (tried.Keys n) was = both 0 (eightAt (a .keys) (a .distances) (a .places) n)
 eight-one a (tried.Refused k) was = both k was
 
-pub hand-eight-one : (a : Dual) (was : Eight) → OnlyOne (λ (r : ℕ × Eight). HandsEight (a .keys) (a .distances) (a .tried) was (r .0) (r .1))
+pub hand-eight-one : (a : Dual) (was : Eight) → OnlyOne (λ (r : ℕ × Eight). HandsEight (a .keys) (a .distances) (a .places) (a .tried) was (r .0) (r .1))
 hand-eight-one a was = eight-one a (a .tried) was
 
 pub dual-cell-one : (t : Tree) (L v : ℕ) (was : Eight) → OnlyOne (λ (r : ℕ × Eight). HandsDual t L v was (r .0) (r .1))
 dual-cell-one t L v was =
-    handed-on (λ (a : Dual). DualSays t L v (a .keys) (a .distances) (a .tried)) (λ a r. HandsEight (a .keys) (a .distances) (a .tried) was (r .0) (r .1))
+    handed-on (λ (a : Dual). DualSays t L v (a .keys) (a .distances) (a .places) (a .tried)) (λ a r. HandsEight (a .keys) (a .distances) (a .places) (a .tried) was (r .0) (r .1))
     (dual-answer-one t L v) (λ a. hand-eight-one a was)
 
 pub hand-count-one : (a : ListAnswer) (was : ℕ) → OnlyOne (λ (r : ℕ × ℕ). HandsCount a was (r .0) (r .1))

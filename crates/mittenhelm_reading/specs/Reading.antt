@@ -17,41 +17,44 @@ use Rattle.dual.specs.declared.SlabAnswer.{SlabAnswer}
 use Rattle.dual.specs.declared.SlabAnswer.the-variants as slab
 use Rattle.dual.specs.Dual.{DualSays}
 
--- The three places of a lookup.
+-- What a lookup hands over, in four out parameters.
 pub record Found : Type 0 where
   pub key : ℕ
   pub distance : Float
+  pub place : ℕ
   pub tried : ℕ
 
-abbrev pub foundAt : ℕ → Float → ℕ → Found
-foundAt key distance tried = record { key = key; distance = distance; tried = tried }
+abbrev pub foundAt : ℕ → Float → ℕ → ℕ → Found
+foundAt key distance place tried = record { key = key; distance = distance; place = place; tried = tried }
 
--- Nothing is handed over as the key 0, which is no cell key, and the distance 0.
+-- Nothing is handed over as the key 0, which is no cell key, the distance 0 and the place 0.
 abbrev pub HandsFound : Lookup → Found → ℕ → Found → Type 0
-HandsFound (lookup.Found k d n) was r out = (r ≡ 0) × (out ≡ foundAt k d n)
-HandsFound (lookup.Nothing n) was r out = (r ≡ 0) × (out ≡ foundAt 0 (ofBits binary32 0) n)
+HandsFound (lookup.Found k d p n) was r out = (r ≡ 0) × (out ≡ foundAt k d p n)
+HandsFound (lookup.Nothing n) was r out = (r ≡ 0) × (out ≡ foundAt 0 (ofBits binary32 0) 0 n)
 HandsFound (lookup.Refused k) was r out = (r ≡ k) × (out ≡ was)
 
 -- The answer is the one that `look_up` promises.
 abbrev pub HandsLookup : Tree → ℕ → Found → ℕ → Found → Type 0
 HandsLookup t key was r out = (a : Lookup) × LookupSays t key a × HandsFound a was r out
 
--- The two arrays of a dual cell, and how many keys were tried.
+-- The three arrays of a dual cell, and how many keys were tried.
 pub record Eight : Type 0 where
   pub keys : List ℕ
   pub distances : List Float
+  pub places : List ℕ
   pub tried : ℕ
 
-abbrev pub eightAt : List ℕ → List Float → ℕ → Eight
-eightAt keys distances tried = record { keys = keys; distances = distances; tried = tried }
+abbrev pub eightAt : List ℕ → List Float → List ℕ → ℕ → Eight
+eightAt keys distances places tried = record { keys = keys; distances = distances; places = places; tried = tried }
 
-abbrev pub HandsEight : List ℕ → List Float → Tried → Eight → ℕ → Eight → Type 0
-HandsEight keys distances (tried.Keys n) was r out = (r ≡ 0) × (out ≡ eightAt keys distances n)
-HandsEight keys distances (tried.Refused k) was r out = (r ≡ k) × (out ≡ was)
+abbrev pub HandsEight : List ℕ → List Float → List ℕ → Tried → Eight → ℕ → Eight → Type 0
+HandsEight keys distances places (tried.Keys n) was r out = (r ≡ 0) × (out ≡ eightAt keys distances places n)
+HandsEight keys distances places (tried.Refused k) was r out = (r ≡ k) × (out ≡ was)
 
 -- The answer is the one that `dual_cell` promises.
 abbrev pub HandsDual : Tree → ℕ → ℕ → Eight → ℕ → Eight → Type 0
-HandsDual t L v was r out = (a : Dual) × DualSays t L v (a .keys) (a .distances) (a .tried) × HandsEight (a .keys) (a .distances) (a .tried) was r out
+HandsDual t L v was r out =
+    (a : Dual) × DualSays t L v (a .keys) (a .distances) (a .places) (a .tried) × HandsEight (a .keys) (a .distances) (a .places) (a .tried) was r out
 
 abbrev pub HandsCount : ListAnswer → ℕ → ℕ → ℕ → Type 0
 HandsCount (list.Count n) was r out = (r ≡ 0) × (out ≡ n)

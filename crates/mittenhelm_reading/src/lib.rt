@@ -9,26 +9,35 @@ ghost use Rattle.vertices.specs.Listing.{listsOf};
 ghost use Rattle.dual.specs.Slab.{slabAnswer};
 ghost use Rattle.mittenhelm_reading.specs.Reading.{foundAt, HandsFound, HandsLookup, eightAt, HandsEight, HandsDual, HandsCount, HandsList, HandsSlab};
 
-// Hands a lookup over: what it found to the three places, or its refusal.
-pub fn hand_found(answer: Lookup, found: &mut u64, distance: &mut f32, tried: &mut u32) -> u32
+// Hands a lookup over: what it found to the four out parameters, or its refusal.
+pub fn hand_found(
+    answer: Lookup,
+    found: &mut u64,
+    distance: &mut f32,
+    place: &mut usize,
+    tried: &mut u32,
+) -> u32
     ensures { λ r. ⌜
-        HandsFound answer (foundAt (now (found .entry)) (now (distance .entry)) (now (tried .entry))) r
-        (foundAt (now (found .exit)) (now (distance .exit)) (now (tried .exit))) ⌝ }
+        HandsFound answer (foundAt (now (found .entry)) (now (distance .entry)) (now (place .entry)) (now (tried .entry))) r
+        (foundAt (now (found .exit)) (now (distance .exit)) (now (place .exit)) (now (tried .exit))) ⌝ }
 {
     match answer {
         Lookup::Found {
             key: k,
             distance: d,
+            place: p,
             tried: n,
         } => {
             *found = k;
             *distance = d;
+            *place = p;
             *tried = n;
             0
         }
         Lookup::Nothing { tried: n } => {
             *found = 0;
             *distance = 0.0;
+            *place = 0;
             *tried = n;
             0
         }
@@ -36,19 +45,28 @@ pub fn hand_found(answer: Lookup, found: &mut u64, distance: &mut f32, tried: &m
     }
 }
 
-// Hands a dual cell over: its arrays and count to the three places, or its refusal.
-pub fn hand_eight(cell: Dual, nodes: &mut [u64; 8], values: &mut [f32; 8], tried: &mut u32) -> u32
+// Hands a dual cell over: its arrays and count to the four out parameters, or its refusal.
+pub fn hand_eight(
+    cell: Dual,
+    nodes: &mut [u64; 8],
+    values: &mut [f32; 8],
+    places: &mut [usize; 8],
+    tried: &mut u32,
+) -> u32
     ensures { λ r. ⌜
-        HandsEight (cell .keys) (cell .distances) (cell .tried) (eightAt (now (nodes .entry)) (now (values .entry)) (now (tried .entry))) r
-        (eightAt (now (nodes .exit)) (now (values .exit)) (now (tried .exit))) ⌝ }
+        HandsEight (cell .keys) (cell .distances) (cell .places) (cell .tried)
+        (eightAt (now (nodes .entry)) (now (values .entry)) (now (places .entry)) (now (tried .entry))) r
+        (eightAt (now (nodes .exit)) (now (values .exit)) (now (places .exit)) (now (tried .exit))) ⌝ }
 {
     let eight = cell.keys;
     let theirs = cell.distances;
+    let stand = cell.places;
     let answer = cell.tried;
     match answer {
         Tried::Keys(sum) => {
             *nodes = eight;
             *values = theirs;
+            *places = stand;
             *tried = sum;
             0
         }
@@ -90,15 +108,16 @@ pub extern "C" fn mittenhelm_look_up(
     key: u64,
     found: &mut u64,
     distance: &mut f32,
+    place: &mut usize,
     tried: &mut u32,
 ) -> u32
     ensures { λ r. ⌜
         HandsLookup (treeOf (now (keys .entry)) (now (distances .entry)) (now (firsts .entry)) (now (leaves .entry))) key
-        (foundAt (now (found .entry)) (now (distance .entry)) (now (tried .entry))) r
-        (foundAt (now (found .exit)) (now (distance .exit)) (now (tried .exit))) ⌝ }
+        (foundAt (now (found .entry)) (now (distance .entry)) (now (place .entry)) (now (tried .entry))) r
+        (foundAt (now (found .exit)) (now (distance .exit)) (now (place .exit)) (now (tried .exit))) ⌝ }
 {
     let answer = tree::look_up(keys, distances, firsts, leaves, key);
-    hand_found(answer, found, distance, tried)
+    hand_found(answer, found, distance, place, tried)
 }
 
 #[no_mangle]
@@ -131,15 +150,16 @@ pub extern "C" fn mittenhelm_dual_cell(
     level: u32,
     nodes: &mut [u64; 8],
     values: &mut [f32; 8],
+    places: &mut [usize; 8],
     tried: &mut u32,
 ) -> u32
     ensures { λ r. ⌜
         HandsDual (treeOf (now (keys .entry)) (now (distances .entry)) (now (firsts .entry)) (now (leaves .entry))) level vertex
-        (eightAt (now (nodes .entry)) (now (values .entry)) (now (tried .entry))) r
-        (eightAt (now (nodes .exit)) (now (values .exit)) (now (tried .exit))) ⌝ }
+        (eightAt (now (nodes .entry)) (now (values .entry)) (now (places .entry)) (now (tried .entry))) r
+        (eightAt (now (nodes .exit)) (now (values .exit)) (now (places .exit)) (now (tried .exit))) ⌝ }
 {
     let cell = dual::dual_cell(keys, distances, firsts, leaves, vertex, level);
-    hand_eight(cell, nodes, values, tried)
+    hand_eight(cell, nodes, values, places, tried)
 }
 
 #[no_mangle]

@@ -27,5 +27,5 @@ cells-trusting-one n from was = cells-answer-one n from was
 
 pub dual-cell-trusting-one : (n : Nodes) (ds : List Float) (L v : ℕ) (was : Eight) → OnlyOne (λ (r : ℕ × Eight). HandsTrustedDual n ds L v was (r .0) (r .1))
 dual-cell-trusting-one n ds L v was =
-    handed-on (λ (a : Dual). DualTrustingSays n ds L v (a .keys) (a .distances) (a .tried)) (λ a r. HandsEight (a .keys) (a .distances) (a .tried) was (r .0) (r .1))
+    handed-on (λ (a : Dual). DualTrustingSays n ds L v (a .keys) (a .distances) (a .places) (a .tried)) (λ a r. HandsEight (a .keys) (a .distances) (a .places) (a .tried) was (r .0) (r .1))
     (dual-answer-one n ds L v) (λ a. hand-eight-one a was)

@@ -18,4 +18,4 @@ module _ (t : Tree) (S : Sound t) where
 
   -- a vertex is a number of 64 bits
   pub same-dual-cell : (L v : ℕ) → v < 2 ^ 64 → (was : Eight) (r : ℕ) (out : Eight) → HandsTrustedDual (nodes t) (t .distances) L v was r out → HandsDual t L v was r out
-  same-dual-cell L v word was r out (a, says, h) = (a, trusting-dual t S L v word (a .keys) (a .distances) (a .tried) says, h)
+  same-dual-cell L v word was r out (a, says, h) = (a, trusting-dual t S L v word (a .keys) (a .distances) (a .places) (a .tried) says, h)

@@ -16,4 +16,4 @@ HandsTrustedList n start before after was r out = (a : ListAnswer) × ListTrusti
 -- The answer is the one that `dual_cell_trusting` promises.
 abbrev pub HandsTrustedDual : Nodes → List Float → ℕ → ℕ → Eight → ℕ → Eight → Type 0
 HandsTrustedDual n ds L v was r out =
-    (a : Dual) × DualTrustingSays n ds L v (a .keys) (a .distances) (a .tried) × HandsEight (a .keys) (a .distances) (a .tried) was r out
+    (a : Dual) × DualTrustingSays n ds L v (a .keys) (a .distances) (a .places) (a .tried) × HandsEight (a .keys) (a .distances) (a .places) (a .tried) was r out

@@ -14,15 +14,16 @@ pub extern "C" fn mittenhelm_look_up_trusting(
     key: u64,
     found: &mut u64,
     distance: &mut f32,
+    place: &mut usize,
     tried: &mut u32,
 ) -> u32
     ensures { λ r. ⌜
         HandsFound (trustingOf (nodesOf (now (keys .entry)) (now (firsts .entry))) (now (distances .entry)) key)
-        (foundAt (now (found .entry)) (now (distance .entry)) (now (tried .entry))) r
-        (foundAt (now (found .exit)) (now (distance .exit)) (now (tried .exit))) ⌝ }
+        (foundAt (now (found .entry)) (now (distance .entry)) (now (place .entry)) (now (tried .entry))) r
+        (foundAt (now (found .exit)) (now (distance .exit)) (now (place .exit)) (now (tried .exit))) ⌝ }
 {
     let answer = tree::look_up_trusting(keys, distances, firsts, key);
-    mittenhelm_reading::hand_found(answer, found, distance, tried)
+    mittenhelm_reading::hand_found(answer, found, distance, place, tried)
 }
 
 #[no_mangle]
@@ -68,13 +69,14 @@ pub extern "C" fn mittenhelm_dual_cell_trusting(
     level: u32,
     nodes: &mut [u64; 8],
     values: &mut [f32; 8],
+    places: &mut [usize; 8],
     tried: &mut u32,
 ) -> u32
     ensures { λ r. ⌜
         HandsTrustedDual (nodesOf (now (keys .entry)) (now (firsts .entry))) (now (distances .entry)) level vertex
-        (eightAt (now (nodes .entry)) (now (values .entry)) (now (tried .entry))) r
-        (eightAt (now (nodes .exit)) (now (values .exit)) (now (tried .exit))) ⌝ }
+        (eightAt (now (nodes .entry)) (now (values .entry)) (now (places .entry)) (now (tried .entry))) r
+        (eightAt (now (nodes .exit)) (now (values .exit)) (now (places .exit)) (now (tried .exit))) ⌝ }
 {
     let cell = dual::dual_cell_trusting(keys, distances, firsts, vertex, level);
-    mittenhelm_reading::hand_eight(cell, nodes, values, tried)
+    mittenhelm_reading::hand_eight(cell, nodes, values, places, tried)
 }

@@ -49,8 +49,12 @@ fn put(
     true
 }
 
-fn same_found(key: u64, distance: f32, tried: u32, l: Line) -> bool {
-    if tried as u64 != l.z {
+// Z has the place above the number tried.
+fn same_found(key: u64, distance: f32, place: usize, tried: u32, l: Line) -> bool {
+    if tried as u64 != l.z % 0x1_0000_0000 {
+        return false;
+    }
+    if place as u64 != l.z >> 32 {
         return false;
     }
     if !sample::is_float(distance, l.y) {
@@ -59,15 +63,16 @@ fn same_found(key: u64, distance: f32, tried: u32, l: Line) -> bool {
     sample::first_is(l, key)
 }
 
-// Nothing has key and distance 0.
+// Nothing has key, distance and place 0.
 fn same_lookup(answer: Lookup, l: Line) -> bool {
     match answer {
         Lookup::Found {
             key,
             distance,
+            place,
             tried,
-        } => same_found(key, distance, tried, l),
-        Lookup::Nothing { tried } => same_found(0, 0.0, tried, l),
+        } => same_found(key, distance, place, tried, l),
+        Lookup::Nothing { tried } => same_found(0, 0.0, 0, tried, l),
         Lookup::Refused(number) => number == l.status,
     }
 }
@@ -119,10 +124,11 @@ fn dual_cell(l: Line, keys: &[u64], distances: &[f32], firsts: &[u16], leaves: &
     let cell = dual::dual_cell(keys, distances, firsts, leaves, l.b, l.low_c);
     let nodes = cell.keys;
     let theirs = cell.distances;
+    let places = cell.places;
     let corner = sample::length_at(l.c, 2, 7);
     let answer = cell.tried;
     match answer {
-        Tried::Keys(n) => same_found(nodes[corner], theirs[corner], n, l),
+        Tried::Keys(n) => same_found(nodes[corner], theirs[corner], places[corner], n, l),
         Tried::Refused(number) => number == l.status,
     }
 }

@@ -142,10 +142,10 @@ list-trusting-one = vertices.list-trusting-one
 pub cells-trusting-one : (ks : Nodes) (from : ℕ) (was : Cells) → OnlyOne (λ (o : Cells × ℕ). CellsSays ks from was (o .0) (o .1))
 cells-trusting-one = vertices.cells-trusting-one
 
-pub dual-cell-one : (t : Tree) (L v : ℕ) → OnlyOne (λ (r : Dual). DualSays t L v (r .keys) (r .distances) (r .tried))
+pub dual-cell-one : (t : Tree) (L v : ℕ) → OnlyOne (λ (r : Dual). DualSays t L v (r .keys) (r .distances) (r .places) (r .tried))
 dual-cell-one = dual.dual-cell-one
 
-pub dual-cell-trusting-one : (ks : Nodes) (ds : List Float) (L v : ℕ) → OnlyOne (λ (r : Dual). DualTrustingSays ks ds L v (r .keys) (r .distances) (r .tried))
+pub dual-cell-trusting-one : (ks : Nodes) (ds : List Float) (L v : ℕ) → OnlyOne (λ (r : Dual). DualTrustingSays ks ds L v (r .keys) (r .distances) (r .places) (r .tried))
 dual-cell-trusting-one = dual.dual-cell-trusting-one
 
 pub slab-one : (v L s : ℕ) → OnlyOne (λ (r : SlabAnswer). r ≡ slabAnswer v L s)
@@ -232,7 +232,7 @@ mittenhelm-dual-cell-trusting-one = trusting.dual-cell-trusting-one
 pub hand-found-one : (a : Lookup) (was : Found) → OnlyOne (λ (r : ℕ × Found). HandsFound a was (r .0) (r .1))
 hand-found-one = reading.hand-found-one
 
-pub hand-eight-one : (a : Dual) (was : Eight) → OnlyOne (λ (r : ℕ × Eight). HandsEight (a .keys) (a .distances) (a .tried) was (r .0) (r .1))
+pub hand-eight-one : (a : Dual) (was : Eight) → OnlyOne (λ (r : ℕ × Eight). HandsEight (a .keys) (a .distances) (a .places) (a .tried) was (r .0) (r .1))
 hand-eight-one = reading.hand-eight-one
 
 pub hand-count-one : (a : ListAnswer) (was : ℕ) → OnlyOne (λ (r : ℕ × ℕ). HandsCount a was (r .0) (r .1))

@@ -6,7 +6,7 @@ use mathlib.Core.Logic.{_⊎_}
 use mathlib.Core.List.{List, _∷_, _++_, reverse}
 use lib.Ieee.{Float, nan}
 use lib.Ieee.Scale.{finite}
-use lib.ListN.{length, getD, take}
+use lib.ListN.{length, getD, take, drop}
 use Rattle.morton.specs.Exact.{Exactly}
 use Rattle.morton.specs.Field.{coord}
 use Rattle.morton.specs.Level.{deepest, limit, level, Cell}
@@ -31,16 +31,15 @@ use Rattle.build.proofs.Asking as asking
 use Rattle.vertices.specs.declared.ListAnswer.{ListAnswer}
 use Rattle.vertices.specs.declared.ListAnswer.the-variants as list
 use Rattle.vertices.specs.Listing.{Lists, Room, ListSays, TrustingSays as ListTrustingSays}
-use Rattle.vertices.specs.Walk.{placeAt, visited, spotsOf, mostOf, verticesOf, levelsOf}
+use Rattle.vertices.specs.Walk.{visited, spotsOf, mostOf, verticesOf, levelsOf}
 use Rattle.vertices.specs.Cells.{placesOf, Cells, cellsOf, CellsSays}
-use Rattle.vertices.proofs.Entries as entries
 use Rattle.vertices.proofs.Linear as linear
 use Rattle.vertices.proofs.One as vertices
-use Rattle.vertices.proofs.Rounds.{EntryAt}
-use Rattle.vertices.proofs.Rounds as rounds
 use Rattle.dual.specs.declared.Dual.{Dual}
+use Rattle.dual.specs.declared.Tried.{Tried}
 use Rattle.dual.specs.declared.Tried.the-variants as tried
-use Rattle.dual.specs.Dual.{DualCell, DualSays, TrustingSays as DualTrustingSays}
+use Rattle.dual.specs.Dual.{DualCell, DualSays, keyIn, placeIn, TrustingSays as DualTrustingSays}
+use Rattle.dual.proofs.Filling as filling
 use Rattle.dual.proofs.One as dual
 use Rattle.demands.specs.Run.{Run, nodeKeys, leafKeys, openCells, wholeOf, childrenOf}
 use Rattle.demands.specs.Demands.{AfterEveryDistance}
@@ -261,7 +260,7 @@ module _ (t : Tree) (sound : Sound t) (D : ℕ) (deep : D ≤ deepest) (fine : (
 
   -- The dual cell of any inner vertex is found, unless the tree is the root alone.
   pub dual-found : 1 < length (t .keys) → (v L : ℕ) → v < 2 ^ 64 → isInner L v ≡ true
-      → (keys : List ℕ) × (distances : List Float) × (tried : ℕ) × DualCell t L v keys distances tried
+      → (keys : List ℕ) × (distances : List Float) × (places : List ℕ) × (tried : ℕ) × DualCell t L v keys distances places tried
   dual-found = right .found
 
   module _ (start n : ℕ) (was left : Lists) (says : ListSays t start was left (list.Count n)) where
@@ -279,7 +278,7 @@ module _ (t : Tree) (sound : Sound t) (D : ℕ) (deep : D ≤ deepest) (fine : (
 
     -- The dual cell of a listed vertex isn't refused,
     module _ (j : ℕ) (listed : j < n) (r : Dual)
-        (cell : DualSays t (getD (left .levels) (start + j) 0) (getD (left .vertices) (start + j) 0) (r .keys) (r .distances) (r .tried)) where
+        (cell : DualSays t (getD (left .levels) (start + j) 0) (getD (left .vertices) (start + j) 0) (r .keys) (r .distances) (r .places) (r .tried)) where
       found : LeafCell D t (getD (left .vertices) (start + j) 0) r
       found = right .dual start n was left says j listed r cell
 
@@ -297,15 +296,27 @@ module _ (t : Tree) (sound : Sound t) (D : ℕ) (deep : D ≤ deepest) (fine : (
         pub dual-alone : (k : ℕ) → In k (t .leaves) → liesIn D (sideOf D (getD (left .vertices) (start + j) 0) i) k ≡ true → k ≡ getD (r .keys) i 0
         dual-alone = found .entry i h .only
 
+        -- at its place,
+        pub dual-place : StandsAt (t .keys) (getD (r .places) i 0) (getD (r .keys) i 0)
+        dual-place = found .entry i h .stands
+
         -- with its distance.
-        pub dual-distance : (place : ℕ) × StandsAt (t .keys) place (getD (r .keys) i 0) × (getD (r .distances) i nan ≡ getD (t .distances) place nan)
-        dual-distance = (found .entry i h .place, found .entry i h .stands, found .entry i h .its-distance)
+        pub dual-distance : getD (r .distances) i nan ≡ getD (t .distances) (getD (r .places) i 0) nan
+        dual-distance = found .entry i h .its-distance
+
+-- The key at the place that a lookup answers is the key found, and the distance there the distance found.
+module _ (t : Tree) (asked key : ℕ) (distance : Float) (place tried : ℕ) (says : LookupSays t asked (Found key distance place tried)) where
+  pub found-place : StandsAt (t .keys) place key
+  found-place = says .2 .present
+
+  pub found-distance : distance ≡ getD (t .distances) place nan
+  found-distance = says .2 .its-distance
 
 -- No lookup and no dual cell of a checked tree hands on a distance that isn't finite.
-pub found-finite : (t : Tree) (asked k n : ℕ) (d : Float) → LookupSays t asked (Found k d n) → finite d ≡ true
+pub found-finite : (t : Tree) (asked k p n : ℕ) (d : Float) → LookupSays t asked (Found k d p n) → finite d ≡ true
 found-finite = tree.found-finite
 
-pub dual-finite : (t : Tree) (L v n : ℕ) (keys : List ℕ) (distances : List Float) → DualSays t L v keys distances (tried.Keys n)
+pub dual-finite : (t : Tree) (L v n : ℕ) (keys : List ℕ) (distances : List Float) (places : List ℕ) → DualSays t L v keys distances places (tried.Keys n)
     → (i : ℕ) → i < 8 → finite (getD distances i nan) ≡ true
 dual-finite = dual.dual-finite
 
@@ -323,13 +334,14 @@ pub list-same : (t : Tree) (start : ℕ) (was : Lists) → Sound t → (o p : Li
 list-same = vertices.list-same
 
 pub trusting-is-dual-cell : (t : Tree) → Sound t → (L v : ℕ) → v < 2 ^ 64 → (r s : Dual)
-    → DualSays t L v (r .keys) (r .distances) (r .tried) → DualTrustingSays (nodes t) (t .distances) L v (s .keys) (s .distances) (s .tried) → r ≡ s
+    → DualSays t L v (r .keys) (r .distances) (r .places) (r .tried) → DualTrustingSays (nodes t) (t .distances) L v (s .keys) (s .distances) (s .places) (s .tried) → r ≡ s
 trusting-is-dual-cell = dual.trusting-is-dual-cell
 
--- The nodes that are handed out with a vertex are those of its dual cell: entry i of vertex j stands at place 8j + i.
-pub cells-right : (t : Tree) → Sound t → (from : ℕ) (was left : Cells) (n : ℕ) → CellsSays (nodes t) from was left n → (j i : ℕ) → j < n → i < 8
-    → EntryAt t (getD (left .levels) j 0) (getD (left .vertices) j 0) i (getD (left .places) (8 * j + i) 0)
-cells-right = rounds.cells-right
+-- The places that are handed out with a vertex are those of its dual cell: on any tables `dual_cell_trusting` accepts it, and hands back the same eight.
+pub cells-right : (ks : Nodes) (from : ℕ) (was left : Cells) (n : ℕ) → CellsSays ks from was left n → (j : ℕ) → j < n → (ds : List Float)
+    → (keys : List ℕ) × (distances : List Float) × (m : ℕ)
+    × DualTrustingSays ks ds (getD (left .levels) j 0) (getD (left .vertices) j 0) keys distances (take 8 (drop (8 * j) (left .places))) (tried.Keys m)
+cells-right = batches.of-each-call
 
 -- ---- first children
 
@@ -350,9 +362,21 @@ pub vertices-linear : (ks : Nodes) → length (spotsOf ks) ≤ 19 * ((length (ks
 unfolding mostOf
 vertices-linear = linear.vertices-linear
 
--- and the places that are handed out with a vertex, those of entry o of a cell, lie inside or are 0.
-pub places-inside : (ks : Nodes) (l c o : ℕ) → (placeAt ks l c o ≡ 0) ⊎ (placeAt ks l c o < length (ks .keys))
-places-inside = entries.places-inside
+-- what a lookup finds stands at a place inside the keys, and not where the root does, or key and place are 0;
+pub look-up-inside : (ks : Nodes) (ds : List Float) (k : ℕ)
+    → ((keyIn (trustingOf ks ds k) ≡ 0) × (placeIn (trustingOf ks ds k) ≡ 0)) ⊎ ((0 < placeIn (trustingOf ks ds k)) × (placeIn (trustingOf ks ds k) < length (ks .keys)))
+look-up-inside = filling.look-up-inside
+
+-- so it is with each entry of a dual cell;
+pub dual-inside : (ks : Nodes) (ds : List Float) (L v : ℕ) (keys : List ℕ) (distances : List Float) (places : List ℕ) (a : Tried)
+    → DualTrustingSays ks ds L v keys distances places a
+    → (i : ℕ) → i < 8 → ((getD keys i 0 ≡ 0) × (getD places i 0 ≡ 0)) ⊎ ((0 < getD places i 0) × (getD places i 0 < length (ks .keys)))
+dual-inside = filling.dual-inside
+
+-- and a place that is handed out with a vertex lies inside or is 0.
+pub places-inside : (ks : Nodes) (from : ℕ) (was left : Cells) (n : ℕ) → CellsSays ks from was left n → (i : ℕ) → i < 8 * n
+    → (getD (left .places) i 0 ≡ 0) ⊎ (getD (left .places) i 0 < length (ks .keys))
+places-inside = batches.places-inside
 
 -- ---- a host that is handed vertices some at a time
 

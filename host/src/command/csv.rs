@@ -16,15 +16,16 @@ pub struct Table {
     rows: fn(&Cut, &Reading) -> Result<Vec<String>, Refusal>,
 }
 
-/// A vertex is written in hexadecimal, since a spreadsheet would round so great a number.
+/// A vertex is written in hexadecimal, since a spreadsheet would round so great a number. Places stand last, so that the columns before
+/// them are those of earlier tables.
 pub const TABLES: [Table; 4] = [
     Table { name: "slabs", about: "each slab, empty ones too", columns: "slab,low,high,cells,crossed", rows: slabs },
-    Table { name: "leaves", about: "each leaf, with its centre", columns: "key,level,x,y,z,half,distance", rows: leaves },
+    Table { name: "leaves", about: "each leaf, with its centre", columns: "key,level,x,y,z,half,distance,place", rows: leaves },
     Table { name: "vertices", about: "each vertex", columns: "vertex,level,x,y,z,slab", rows: vertices },
     Table {
         name: "cells",
-        about: "each dual cell, with its eight nodes in corner order",
-        columns: "vertex,level,slab,crossed,tried,key0..7,distance0..7",
+        about: "each dual cell, with its eight nodes, in the order told below",
+        columns: "vertex,level,slab,crossed,tried,key0..7,distance0..7,place0..7",
         rows: cells,
     },
 ];
@@ -65,14 +66,14 @@ fn slabs(cut: &Cut, reading: &Reading) -> Result<Vec<String>, Refusal> {
 
 fn leaves(_: &Cut, reading: &Reading) -> Result<Vec<String>, Refusal> {
     let row = |leaf: &Leaf| {
-        let Leaf { key, centre, half, distance } = leaf;
-        format!("{key},{},{},{half},{distance}", mittenhelm::level(*key), joined(centre))
+        let Leaf { key, centre, half, distance, place } = leaf;
+        format!("{key},{},{},{half},{distance},{place}", mittenhelm::level(*key), joined(centre))
     };
     Ok(reading.leaves.iter().map(row).collect())
 }
 
 fn vertices(_: &Cut, reading: &Reading) -> Result<Vec<String>, Refusal> {
-    let row = |cell: &Cell| Ok(format!("{:#x},{},{},{}", cell.vertex, cell.level, joined(&cell.place()?), cell.slab));
+    let row = |cell: &Cell| Ok(format!("{:#x},{},{},{}", cell.vertex, cell.level, joined(&cell.point()?), cell.slab));
     reading.cells.iter().map(row).collect()
 }
 
@@ -80,7 +81,8 @@ fn cells(_: &Cut, reading: &Reading) -> Result<Vec<String>, Refusal> {
     let row = |cell: &Cell| {
         let Cell { vertex, level, slab, dual } = cell;
         let (crossed, tried) = (u8::from(cell.is_crossed()), dual.tried);
-        format!("{vertex:#x},{level},{slab},{crossed},{tried},{},{}", joined(&dual.keys), joined(&dual.distances))
+        let nodes = [joined(&dual.keys), joined(&dual.distances), joined(&dual.places)];
+        format!("{vertex:#x},{level},{slab},{crossed},{tried},{}", joined(&nodes))
     };
     Ok(reading.cells.iter().map(row).collect())
 }

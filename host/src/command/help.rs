@@ -41,7 +41,8 @@ sample writes a part as a grid file, to FILE or to standard output.
 
 key prints what the number is as an octree key: level, parent, children, half
 size, centre, and for each corner its vertex and the cells on the vertex's eight
-sides. NUMBER is decimal, or hexadecimal after 0x, up to 64 bits.
+sides: that on side w has the vertex at its own corner w. NUMBER is decimal, or
+hexadecimal after 0x, up to 64 bits.
 
 PART is a built-in part, or else a grid file (./sphere is a file of that name):
 {parts}
@@ -56,6 +57,15 @@ row for
 {tables}
 A cell is crossed if the part's surface goes through it: of its eight distances
 some are below 0 and some aren't. Fractions have as many decimals as f32 needs.
+A place is where a node stands among all nodes, which ascend by their keys; the
+root has place 0.
+
+Node w of a dual cell is the cell that has the vertex at its corner w, or the
+leaf over that cell: node 0 lies above the vertex on all axes, node 7 below on
+all. With the root and its children alone, keys 1, 8, 9, .., 15 at the places 0
+to 8, the vertex 0xf000000000000000 in the middle of the cube would have the
+keys 15, 14, .., 8 at the places 8, 7, .., 1: node 0 is 15, whose corner 0 is
+the vertex, and node 7 is 8, whose corner 7 is.
 
 The status is 0 where all was done, 1 where the library refused or a result
 couldn't be written, 2 for bad arguments or a bad grid file.

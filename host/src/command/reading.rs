@@ -11,6 +11,8 @@ pub struct Leaf {
     pub centre: Point,
     pub half: f32,
     pub distance: f32,
+    /// Where it stands among the tree's nodes.
+    pub place: usize,
 }
 
 /// A vertex with its dual cell.
@@ -82,18 +84,17 @@ impl Cell {
     }
 
     /// Where the vertex lies: it is the low corner of the cell of level 21 whose key it is.
-    pub fn place(&self) -> Result<Point, Refusal> {
+    pub fn point(&self) -> Result<Point, Refusal> {
         let half = mittenhelm::half_size(self.vertex)?;
         Ok(mittenhelm::centre(self.vertex)?.map(|middle| middle - half))
     }
 }
 
+/// The leaves of a sound tree are its nodes without a first child, in the same order: so each is read where it stands.
 fn leaves(tree: &Tree) -> Result<Vec<Leaf>, Refusal> {
-    let mut nodes = tree.keys.iter().zip(tree.distances);
-    let leaf = |&key| {
-        // Both ascend, so that the search goes on where it was.
-        let distance = nodes.find(|(&node, _)| node == key).map_or(f32::NAN, |(_, &distance)| distance);
-        Ok(Leaf { key, centre: mittenhelm::centre(key)?, half: mittenhelm::half_size(key)?, distance })
+    let leaf = |place: usize| {
+        let (key, distance) = (tree.keys[place], tree.distances[place]);
+        Ok(Leaf { key, centre: mittenhelm::centre(key)?, half: mittenhelm::half_size(key)?, distance, place })
     };
-    tree.leaves.iter().map(leaf).collect()
+    (0..tree.keys.len()).filter(|&place| tree.firsts[place] == 0).map(leaf).collect()
 }

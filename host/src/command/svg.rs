@@ -79,7 +79,7 @@ struct Dot {
 fn dots<'a>(cells: impl Iterator<Item = &'a Cell>) -> Result<BTreeMap<[u32; 2], Dot>, Refusal> {
     let mut dots = BTreeMap::new();
     for cell in cells {
-        let [x, y, _] = cell.place()?;
+        let [x, y, _] = cell.point()?;
         let dot: &mut Dot = dots.entry([x.to_bits(), y.to_bits()]).or_default();
         *dot = Dot { is_crossed: dot.is_crossed || cell.is_crossed(), level: dot.level.max(cell.level) };
     }

@@ -1,5 +1,6 @@
-/* A part from its distance field to its dual cells and their slabs, as a printer's firmware does it: static tables, no heap. Written
- * in the language that C and C++ share. It prints its totals, and exits 0 if all that it was given is as the header says. */
+/* A part from its distance field to its dual cells and their slabs, as a printer's firmware does it: static tables, no heap. It prints the
+ * part in two resins, and keeps which in a table of its own beside the nodes. Written in the language that C and C++ share. It prints its
+ * totals, and exits 0 if all that it was given is as the header says. */
 #include "expect.h"
 #include "mittenhelm.h"
 
@@ -17,13 +18,17 @@ static uint16_t firsts[NODES];
 static uint8_t levels[VERTICES];
 static uint32_t cells_in_slab[SLABS];
 
+/* The host's own data: which resin a node is printed in, at the node's place. No call of the library reads or writes it. */
+enum { NO_RESIN, SOFT, STIFF, RESINS };
+static uint8_t resins[NODES];
+
 /* The tables together, with the state. */
 enum {
-    LENT = sizeof keys + sizeof distances + sizeof firsts + sizeof leaves + sizeof queue + sizeof vertices + sizeof levels
-        + 8 * MITTENHELM_STATE_WORDS
+    NEEDED = sizeof keys + sizeof distances + sizeof firsts + sizeof leaves + sizeof queue + sizeof vertices + sizeof levels
+        + sizeof resins + 8 * MITTENHELM_STATE_WORDS
 };
 
-static size_t nodes, leaf_count;
+static uint64_t nodes, leaf_count;
 
 /* The tables of the build, and the tree that it left. */
 #define TABLES keys, NODES, distances, NODES, firsts, NODES, leaves, LEAVES, queue, LEAVES
@@ -52,13 +57,38 @@ static void build(void)
     expect(refusal == MITTENHELM_ACCEPTED, "every distance has room");
     if (refusal != MITTENHELM_ACCEPTED)
         return;
-    nodes = (size_t)state[MITTENHELM_STATE_NODES];
-    leaf_count = (size_t)state[MITTENHELM_STATE_LEAVES];
+    nodes = state[MITTENHELM_STATE_NODES];
+    leaf_count = state[MITTENHELM_STATE_LEAVES];
 }
 
-static bool ascends(const uint64_t *table, size_t length)
+/* Outside the part nothing is cured; inside, its lower half is soft and its upper half stiff. A printer may have this from a file. */
+static uint8_t resin_of(uint64_t key, float distance)
 {
-    size_t i;
+    float x = 0, y = 0, z = 0;
+
+    expect(mittenhelm_centre(key, &x, &y, &z) == MITTENHELM_ACCEPTED, "centre");
+    return distance > 0 ? NO_RESIN : z < 0.5f ? SOFT : STIFF;
+}
+
+/* Once the build is finished each node keeps its place, and so its resin is written there. */
+static void choose_resins(void)
+{
+    uint64_t place;
+
+    for (place = 0; place < nodes; place++)
+        resins[place] = resin_of(keys[place], distances[place]);
+}
+
+/* The resin of a node whose place a call told: one read, and no search. */
+static uint8_t resin_at(uint64_t place)
+{
+    expect(place < nodes, "a place in the node tables");
+    return place < nodes ? resins[place] : (uint8_t)NO_RESIN;
+}
+
+static bool ascends(const uint64_t *table, uint64_t length)
+{
+    uint64_t i;
 
     for (i = 1; i < length; i++)
         if (table[i - 1] >= table[i])
@@ -67,12 +97,12 @@ static bool ascends(const uint64_t *table, size_t length)
 }
 
 /* The place of a key in an ascending table; the length, where it isn't there. */
-static size_t place_of(uint64_t key, const uint64_t *table, size_t length)
+static uint64_t place_of(uint64_t key, const uint64_t *table, uint64_t length)
 {
-    size_t from = 0, to = length;
+    uint64_t from = 0, to = length;
 
     while (from < to) {
-        const size_t middle = from + (to - from) / 2;
+        const uint64_t middle = from + (to - from) / 2;
 
         if (table[middle] < key)
             from = middle + 1;
@@ -85,14 +115,13 @@ static size_t place_of(uint64_t key, const uint64_t *table, size_t length)
 /* The leaves fill the cube: counted in cells of the bound's level, of which a leaf of level L holds 8^(BOUND - L). */
 static void check_tree(void)
 {
-    uint64_t volume = 0;
-    size_t i;
+    uint64_t volume = 0, i;
 
     expect(mittenhelm_sound(TREE), "the tree is sound");
     expect(8 * leaf_count == 7 * nodes + 1, "seven leaves more for each split");
     expect(ascends(keys, nodes) && ascends(leaves, leaf_count), "keys and leaves ascend");
     for (i = 0; i < nodes; i++) {
-        const size_t first = place_of(8 * keys[i], keys, nodes);
+        const uint64_t first = place_of(8 * keys[i], keys, nodes);
 
         expect(firsts[i] == (first < nodes ? first : 0), "the place of a first child, or 0");
     }
@@ -103,9 +132,9 @@ static void check_tree(void)
     expect(volume == (uint64_t)1 << 3 * BOUND, "the volumes of the leaves add up to the cube");
 }
 
-static size_t list(void)
+static uint64_t list(void)
 {
-    size_t count = 0, i;
+    uint64_t count = 0, i;
 
     expect(mittenhelm_list(TREE, 0, vertices, VERTICES, levels, VERTICES, &count) == MITTENHELM_ACCEPTED, "list");
     expect(ascends(vertices, count), "vertices ascend");
@@ -114,55 +143,92 @@ static size_t list(void)
     return count;
 }
 
-/* An entry is a leaf with its own distance, and its region holds the cell of the level on that side. */
-static void check_entry(uint64_t vertex, uint32_t level, uint32_t side, uint64_t entry, float distance)
+/* An entry is a leaf that stands at its place with its own distance, and its region holds the cell of the level on that side. */
+static void check_entry(uint64_t vertex, uint32_t level, uint32_t side, uint64_t entry, float distance, uint64_t place)
 {
-    const size_t place = place_of(entry, keys, nodes);
     uint64_t cell = 0;
 
-    expect(place_of(entry, leaves, leaf_count) < leaf_count, "an entry is a leaf");
-    expect(place < nodes && distances[place] == distance, "an entry has its leaf's distance");
+    expect(place < nodes && keys[place] == entry && firsts[place] == 0 && distances[place] == distance,
+        "an entry is the leaf at its place, with its distance");
     expect(mittenhelm_side(vertex, level, side, &cell) == MITTENHELM_ACCEPTED, "side");
     while (mittenhelm_level(cell) > mittenhelm_level(entry))
         cell = mittenhelm_parent(cell);
     expect(cell == entry, "an entry's region holds the cell on its side");
 }
 
-/* What all dual cells have together. Sums of keys go modulo 2^64. */
+/* What all dual cells have together. Sums of keys and places go modulo 2^64. */
 struct totals {
-    uint64_t keys;
-    uint32_t tried, outside;
+    uint64_t keys, places;
+    uint32_t tried, outside, of_resin[RESINS], seams;
 };
+
+/* Counts a dual cell's nodes by their resins. At a seam both resins meet. */
+static void add_resins(const uint64_t *cell_places, struct totals *totals)
+{
+    bool has[RESINS] = { false, false, false };
+    uint32_t side;
+
+    for (side = 0; side < 8; side++) {
+        const uint8_t resin = resin_at(cell_places[side]);
+
+        has[resin] = true;
+        totals->of_resin[resin]++;
+    }
+    totals->seams += has[SOFT] && has[STIFF];
+}
 
 static void add_cell(uint64_t vertex, uint32_t level, struct totals *totals)
 {
-    uint64_t cell_keys[8];
+    uint64_t cell_keys[8], cell_places[8];
     float cell_distances[8];
     uint32_t tried = 0, slab = 0, side;
 
-    if (mittenhelm_dual_cell(TREE, vertex, level, cell_keys, cell_distances, &tried) != MITTENHELM_ACCEPTED
+    if (mittenhelm_dual_cell(TREE, vertex, level, cell_keys, cell_distances, cell_places, &tried) != MITTENHELM_ACCEPTED
         || mittenhelm_slab(vertex, level, SLAB_EXPONENT, &slab) != MITTENHELM_ACCEPTED || slab >= SLABS) {
         expect(false, "every vertex has a dual cell and a slab");
         return;
     }
     for (side = 0; side < 8; side++) {
-        check_entry(vertex, level, side, cell_keys[side], cell_distances[side]);
+        check_entry(vertex, level, side, cell_keys[side], cell_distances[side], cell_places[side]);
         totals->keys += (side + 1) * cell_keys[side];
+        totals->places += (side + 1) * cell_places[side];
         totals->outside += cell_distances[side] > 0;
     }
+    add_resins(cell_places, totals);
     totals->tried += tried;
     cells_in_slab[slab]++;
 }
 
+/* What is cured in the part's middle, from the lowest cell of the bound's level to the highest, by a lookup of each: soft is -, stiff #. */
+static void print_column(void)
+{
+    const char signs[] = ".-#";
+    uint64_t key = 1, found = 0, place = 0;
+    float distance = 0;
+    uint32_t tried = 0, z, bit;
+
+    /* The lowest cell at x 14 and y 16 of 32; 4 is one cell up. */
+    for (bit = 1 << BOUND >> 1; bit > 0; bit >>= 1)
+        expect(mittenhelm_child(key, (14 & bit ? 1 : 0) + (16 & bit ? 2 : 0), &key) == MITTENHELM_ACCEPTED, "child");
+    printf("column ");
+    for (z = 0; z < 1 << BOUND; z++, key = mittenhelm_add(key, 4)) {
+        expect(mittenhelm_look_up(TREE, key, &found, &distance, &place, &tried) == MITTENHELM_ACCEPTED && place < nodes
+            && keys[place] == found && distances[place] == distance, "look_up");
+        printf("%c", signs[resin_at(place)]);
+    }
+    printf("\n");
+}
+
 int main(void)
 {
-    struct totals totals = { 0, 0, 0 };
-    size_t count, i;
+    struct totals totals = { 0, 0, 0, 0, { 0, 0, 0 }, 0 };
+    uint64_t count, i;
     uint32_t cells = 0, slab;
 
-    expect(LENT < 256 * 1024, "a printer has 256 KiB for everything");
+    expect(NEEDED < 256 * 1024, "a printer has 256 KiB for everything");
     build();
     check_tree();
+    choose_resins();
     count = list();
     for (i = 0; i < count; i++)
         add_cell(vertices[i], levels[i], &totals);
@@ -171,8 +237,11 @@ int main(void)
     expect(cells == count, "every cell lies in one slab");
 
     printf("%lu nodes, %lu leaves, %lu vertices\n", (unsigned long)nodes, (unsigned long)leaf_count, (unsigned long)count);
-    printf("%lu keys tried, %lu entries outside, keys %llu\n", (unsigned long)totals.tried, (unsigned long)totals.outside,
-        (unsigned long long)totals.keys);
+    printf("%lu keys tried, %lu entries outside, keys %llu, places %llu\n", (unsigned long)totals.tried,
+        (unsigned long)totals.outside, (unsigned long long)totals.keys, (unsigned long long)totals.places);
+    printf("%lu entries without resin, %lu soft, %lu stiff; %lu cells at a seam\n", (unsigned long)totals.of_resin[NO_RESIN],
+        (unsigned long)totals.of_resin[SOFT], (unsigned long)totals.of_resin[STIFF], (unsigned long)totals.seams);
+    print_column();
     for (slab = 0; slab < SLABS; slab++)
         printf("slab %lu: %lu cells\n", (unsigned long)slab, (unsigned long)cells_in_slab[slab]);
     return wrong;

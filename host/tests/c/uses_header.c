@@ -16,7 +16,7 @@ static uint16_t firsts[73];
 #define TABLES TREE, queue, queue_length
 
 /* Gives what is no distance while a cell is asked for: it is refused, and the build stands where it stood. */
-static void refuse_broken(uint64_t *state, size_t queue_length)
+static void refuse_broken(uint64_t *state, uint64_t queue_length)
 {
     const float broken[3] = {INFINITY, -INFINITY, NAN};
     uint64_t state_before[MITTENHELM_STATE_WORDS], keys_before[73], leaves_before[64], queue_before[64], key = 5;
@@ -43,7 +43,7 @@ static void refuse_broken(uint64_t *state, size_t queue_length)
 }
 
 /* A build of bound 2, with a queue of so many places: the number of the distance that was refused, or 0 where it finishes. */
-static unsigned refused_at(size_t queue_length, uint32_t *refusal)
+static unsigned refused_at(uint64_t queue_length, uint32_t *refusal)
 {
     uint64_t state[MITTENHELM_STATE_WORDS], key = 5;
     float x = 5, y = 5, z = 5, half = 5;
@@ -78,8 +78,10 @@ static unsigned refused_at(size_t queue_length, uint32_t *refusal)
     return 0;
 }
 
-/* What a list needs of it. */
+/* What a list needs of it; and the out parameters of a lookup and of a dual cell. */
 #define CELLS keys, 73, firsts, 73
+#define FOUND &found, &distance, &place, &tried
+#define CELL cell_keys, cell_distances, cell_places, &tried
 
 enum { ROOM = 10 };
 
@@ -89,7 +91,7 @@ static void read_cells(const uint64_t *list)
     uint64_t vertices[ROOM], cell_keys[8], from = 0;
     float cell_distances[8];
     uint8_t levels[ROOM];
-    size_t places[8 * ROOM + 7], count = ROOM, total = 0, i, corner;
+    uint64_t places[8 * ROOM + 7], cell_places[8], count = ROOM, total = 0, i, entry;
     uint32_t tried;
 
     while (count == ROOM) {
@@ -99,12 +101,12 @@ static void read_cells(const uint64_t *list)
             return;
         for (i = 0; i < count; i++) {
             expect(vertices[i] == list[total + i] && levels[i] == 2, "the vertices in turn");
-            expect(mittenhelm_dual_cell(TREE, vertices[i], levels[i], cell_keys, cell_distances, &tried) == MITTENHELM_ACCEPTED,
-                "dual_cell of each");
-            for (corner = 0; corner < 8; corner++) {
-                size_t place = places[8 * i + corner];
-                expect(place < 73 && keys[place] == cell_keys[corner] && distances[place] == cell_distances[corner],
-                    "the places of a dual cell");
+            expect(mittenhelm_dual_cell(TREE, vertices[i], levels[i], cell_keys, cell_distances, cell_places, &tried)
+                == MITTENHELM_ACCEPTED, "dual_cell of each");
+            for (entry = 0; entry < 8; entry++) {
+                uint64_t place = places[8 * i + entry];
+                expect(place < 73 && keys[place] == cell_keys[entry] && distances[place] == cell_distances[entry]
+                    && place == cell_places[entry], "the places of a dual cell");
             }
         }
         total += count;
@@ -119,7 +121,7 @@ static void list_in_one_pass(void)
 {
     uint64_t vertices[19 * 9];
     uint8_t levels[19 * 9];
-    size_t count = 5;
+    uint64_t count = 5;
 
     vertices[27] = 5;
     levels[27] = 5;
@@ -130,14 +132,69 @@ static void list_in_one_pass(void)
     expect(vertices[27] == 5 && levels[27] == 5, "behind a long list of a trusted tree");
 }
 
+/* The header's example: the root and its eight children, and the vertex in the middle of the cube. */
+static void read_nine(uint64_t middle)
+{
+    const uint64_t nine[9] = {1, 8, 9, 10, 11, 12, 13, 14, 15}, eight[8] = {8, 9, 10, 11, 12, 13, 14, 15};
+    const float nine_distances[9] = {0, 1, 2, 3, 4, 5, 6, 7, 8};
+    const uint16_t nine_firsts[9] = {1, 0, 0, 0, 0, 0, 0, 0, 0};
+    uint64_t cell_keys[8], cell_places[8], vertex = 5;
+    float cell_distances[8], x = 5, y = 5, z = 5;
+    uint32_t tried = 5, entry;
+
+    expect(mittenhelm_dual_cell(nine, 9, nine_distances, 9, nine_firsts, 9, eight, 8, middle, 1, cell_keys, cell_distances,
+        cell_places, &tried) == MITTENHELM_ACCEPTED && tried == 8, "dual_cell of nine nodes");
+    for (entry = 0; entry < 8; entry++) {
+        expect(cell_keys[entry] == 15 - entry && cell_places[entry] == 8 - entry && cell_distances[entry] == 8.0f - (float)entry,
+            "the keys 15 to 8 at the places 8 to 1");
+        expect(mittenhelm_vertex(cell_keys[entry], 1, entry, &vertex) == MITTENHELM_ACCEPTED && vertex == middle,
+            "an entry has the vertex at its corner of the same number");
+    }
+    expect(mittenhelm_centre(cell_keys[0], &x, &y, &z) == MITTENHELM_ACCEPTED && x > 0.5f && y > 0.5f && z > 0.5f,
+        "entry 0 lies above on all axes");
+    expect(mittenhelm_centre(cell_keys[7], &x, &y, &z) == MITTENHELM_ACCEPTED && x < 0.5f && y < 0.5f && z < 0.5f,
+        "entry 7 lies below on all axes");
+}
+
+static void set_all(uint64_t *places, uint64_t number)
+{
+    int i;
+
+    for (i = 0; i < 8; i++)
+        places[i] = number;
+}
+
+static bool all_are(const uint64_t *places, uint64_t number)
+{
+    int i;
+
+    for (i = 0; i < 8; i++)
+        if (places[i] != number)
+            return false;
+    return true;
+}
+
+/* The cells on the eight sides of a vertex at level 2, whose 64 cells stand from place 9 on: each at its place, with its distance. */
+static void expect_sides(uint64_t vertex, const uint64_t *cell_keys, const float *cell_distances, const uint64_t *cell_places,
+    const char *what)
+{
+    uint64_t cell = 5;
+    uint32_t side;
+
+    for (side = 0; side < 8; side++) {
+        expect(mittenhelm_side(vertex, 2, side, &cell) == MITTENHELM_ACCEPTED && cell_keys[side] == cell, what);
+        expect(cell_places[side] == 9 + (cell - 64) && keys[cell_places[side]] == cell
+            && distances[cell_places[side]] == cell_distances[side], what);
+    }
+}
+
 /* Reads the tree that the last build left. Its distances are 1 for the root, then 2, 3 and so on, 73 for the last cell. */
 static void read_tree(uint64_t middle)
 {
-    uint64_t vertices[30], cell_keys[8], found = 5;
+    uint64_t vertices[30], cell_keys[8], cell_places[8], found = 5, place = 5, count = 5;
     float cell_distances[8], distance = 5;
     uint8_t levels[30];
     uint32_t tried = 5, slab = 5;
-    size_t count = 5;
     int i;
 
     expect(mittenhelm_sound(TREE), "sound");
@@ -148,16 +205,17 @@ static void read_tree(uint64_t middle)
     firsts[8] = 65;
     distances[72] = -INFINITY;
     expect(!mittenhelm_sound(TREE), "a distance that is infinite");
-    expect(mittenhelm_look_up(TREE, 71, &found, &distance, &tried) == MITTENHELM_NOT_SOUND && found == 5, "look_up beside it");
+    expect(mittenhelm_look_up(TREE, 71, FOUND) == MITTENHELM_NOT_SOUND && found == 5 && place == 5, "look_up beside it");
     distances[72] = 73.0f;
 
-    expect(mittenhelm_look_up(TREE, 8 * 71 + 3, &found, &distance, &tried) == MITTENHELM_ACCEPTED, "look_up");
-    expect(found == 71 && distance == 17.0f && tried == 2, "the deepest ancestor");
-    expect(mittenhelm_look_up(TREE, 1, &found, &distance, &tried) == MITTENHELM_ACCEPTED, "look_up of the root");
-    expect(found == 0 && distance == 0.0f && tried == 0, "the root is never tried");
-    expect(mittenhelm_look_up(TREE, 16, &found, &distance, &tried) == MITTENHELM_NOT_A_CELL, "look_up of no cell");
-    expect(mittenhelm_look_up(NODES, leaves, 63, 16, &found, &distance, &tried) == MITTENHELM_NOT_SOUND,
-        "look_up without a leaf");
+    expect(mittenhelm_look_up(TREE, 8 * 71 + 3, FOUND) == MITTENHELM_ACCEPTED, "look_up");
+    expect(found == 71 && distance == 17.0f && place == 16 && tried == 2, "the deepest ancestor");
+    expect(place < 73 && keys[place] == found && distances[place] == distance && firsts[place] == 0, "what stands at its place");
+    expect(mittenhelm_look_up(TREE, 16, FOUND) == MITTENHELM_NOT_A_CELL, "look_up of no cell");
+    expect(mittenhelm_look_up(NODES, leaves, 63, 16, FOUND) == MITTENHELM_NOT_SOUND, "look_up without a leaf");
+    expect(found == 71 && distance == 17.0f && place == 16 && tried == 2, "refused lookups");
+    expect(mittenhelm_look_up(TREE, 1, FOUND) == MITTENHELM_ACCEPTED, "look_up of the root");
+    expect(found == 0 && distance == 0.0f && place == 0 && tried == 0, "the root is never tried");
 
     vertices[2] = 5;
     levels[2] = 5;
@@ -168,22 +226,29 @@ static void read_tree(uint64_t middle)
     for (i = 3; i < 30; i++)
         expect(mittenhelm_is_inner(vertices[i], 2) && levels[i] == 2 && (i == 3 || vertices[i - 1] < vertices[i]), "the list");
 
-    expect(mittenhelm_dual_cell(TREE, middle, 2, cell_keys, cell_distances, &tried) == MITTENHELM_ACCEPTED, "dual_cell");
+    expect(mittenhelm_dual_cell(TREE, middle, 2, CELL) == MITTENHELM_ACCEPTED, "dual_cell");
     expect(cell_keys[0] == 120 && cell_keys[7] == 71 && cell_distances[7] == 17.0f && tried == 8, "the middle's dual cell");
-    expect(mittenhelm_dual_cell(TREE, 71, 2, cell_keys, cell_distances, &tried) == MITTENHELM_NOT_A_VERTEX, "no vertex");
+    expect_sides(middle, cell_keys, cell_distances, cell_places, "the nodes of the middle's dual cell");
+    set_all(cell_places, 5);
+    expect(mittenhelm_dual_cell(TREE, 71, 2, CELL) == MITTENHELM_NOT_A_VERTEX, "no vertex");
+    expect(mittenhelm_dual_cell(NODES, leaves, 63, middle, 2, CELL) == MITTENHELM_NOT_SOUND, "dual_cell without a leaf");
+    expect(all_are(cell_places, 5), "the places of refused dual cells");
 
-    expect(mittenhelm_look_up_trusting(NODES, 963, &found, &distance, &tried) == MITTENHELM_ACCEPTED, "look_up_trusting");
-    expect(found == 120 && distance == 66.0f && tried == 2, "the deepest ancestor in a trusted tree");
-    expect(mittenhelm_look_up_trusting(NODES, 16, &found, &distance, &tried) == MITTENHELM_NOT_A_CELL, "trust and no cell");
-    expect(mittenhelm_look_up_trusting(keys, 73, distances, 0, firsts, 73, 120, &found, &distance, &tried) == MITTENHELM_ACCEPTED,
+    expect(mittenhelm_look_up_trusting(NODES, 963, FOUND) == MITTENHELM_ACCEPTED, "look_up_trusting");
+    expect(found == 120 && distance == 66.0f && place == 65 && tried == 2, "the deepest ancestor in a trusted tree");
+    expect(mittenhelm_look_up_trusting(NODES, 16, FOUND) == MITTENHELM_NOT_A_CELL && place == 65, "trust and no cell");
+    expect(mittenhelm_look_up_trusting(keys, 73, distances, 0, firsts, 73, 120, FOUND) == MITTENHELM_ACCEPTED,
         "look_up_trusting without distances");
-    expect(found == 120 && distance == 0.0f && tried == 1, "0 without a distance");
-    expect(mittenhelm_look_up_trusting(keys, 73, distances, 73, firsts, 0, 120, &found, &distance, &tried) == MITTENHELM_ACCEPTED,
+    expect(found == 120 && distance == 0.0f && place == 65 && tried == 1, "0 without a distance");
+    expect(mittenhelm_look_up_trusting(keys, 73, distances, 73, firsts, 0, 120, FOUND) == MITTENHELM_ACCEPTED,
         "look_up_trusting without first children");
-    expect(found == 0 && distance == 0.0f && tried == 2, "no way down without first children");
+    expect(found == 0 && distance == 0.0f && place == 0 && tried == 2, "no way down without first children");
     firsts[0] = 65;
-    expect(mittenhelm_look_up_trusting(NODES, 120, &found, &distance, &tried) == MITTENHELM_ACCEPTED && found == 0,
+    place = 5;
+    expect(mittenhelm_look_up_trusting(NODES, 120, FOUND) == MITTENHELM_ACCEPTED && found == 0 && place == 0,
         "no way down to another node's children");
+    expect(mittenhelm_dual_cell_trusting(NODES, middle, 2, CELL) == MITTENHELM_ACCEPTED, "dual_cell_trusting without a way down");
+    expect(all_are(cell_keys, 0) && cell_distances[7] == 0.0f && all_are(cell_places, 0) && tried == 16, "sides with nothing found");
     firsts[0] = 1;
 
     count = 5;
@@ -197,13 +262,14 @@ static void read_tree(uint64_t middle)
     expect(mittenhelm_list_trusting(keys, 0, firsts, 73, 30, vertices, 30, levels, 30, &count) == MITTENHELM_ACCEPTED
         && count == 0, "list_trusting without keys");
 
-    cell_keys[0] = 5;
-    expect(mittenhelm_dual_cell_trusting(keys, 1, distances, 1, firsts, 1, middle, 2, cell_keys, cell_distances, &tried)
-        == MITTENHELM_NOT_A_VERTEX, "dual_cell_trusting of the root alone");
-    expect(cell_keys[0] == 5 && tried == 2, "a refused dual cell");
-    expect(mittenhelm_dual_cell_trusting(NODES, middle, 2, cell_keys, cell_distances, &tried) == MITTENHELM_ACCEPTED,
-        "dual_cell_trusting");
+    set_all(cell_keys, 5);
+    set_all(cell_places, 5);
+    expect(mittenhelm_dual_cell_trusting(keys, 1, distances, 1, firsts, 1, middle, 2, CELL) == MITTENHELM_NOT_A_VERTEX,
+        "dual_cell_trusting of the root alone");
+    expect(all_are(cell_keys, 5) && all_are(cell_places, 5) && tried == 16, "a refused dual cell");
+    expect(mittenhelm_dual_cell_trusting(NODES, middle, 2, CELL) == MITTENHELM_ACCEPTED, "dual_cell_trusting");
     expect(cell_keys[0] == 120 && cell_keys[7] == 71 && cell_distances[0] == 66.0f && tried == 8, "the same dual cell");
+    expect_sides(middle, cell_keys, cell_distances, cell_places, "the same nodes");
 
     read_cells(vertices + 3);
     list_in_one_pass();
@@ -244,6 +310,7 @@ int main(void)
     expect(mittenhelm_should_refine(0, 3, 9.0f), "should_refine of the root");
     expect(!mittenhelm_should_refine(0, 3, NAN) && !mittenhelm_should_refine(2, 3, -INFINITY), "should_refine of no distance");
 
+    read_nine(middle);
     expect(refused_at(64, &refusal) == 0, "a queue of 64");
     read_tree(middle);
     expect(refused_at(63, &refusal) == 9 && refusal == MITTENHELM_QUEUE_FULL, "a queue of 63");

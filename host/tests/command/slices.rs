@@ -38,11 +38,11 @@ impl Expected {
     }
 
     fn leaves_table(&self) -> String {
-        let mut text = "key,level,x,y,z,half,distance\n".to_string();
-        for node in self.tree.nodes.iter().filter(|node| self.tree.is_leaf(node.request.key)) {
+        let mut text = "key,level,x,y,z,half,distance,place\n".to_string();
+        for (place, node) in self.tree.nodes.iter().enumerate().filter(|(_, node)| self.tree.is_leaf(node.request.key)) {
             let key = node.request.key;
             let (centre, half) = (centre(key).expect("a cell"), half_size(key).expect("a cell"));
-            text += &format!("{key},{},{},{half},{}\n", level(key), joined(&centre), node.distance);
+            text += &format!("{key},{},{},{half},{},{place}\n", level(key), joined(&centre), node.distance);
         }
         text
     }
@@ -60,12 +60,13 @@ impl Expected {
 
     fn cells_table(&self, exponent: u32) -> String {
         let eight = |name: &str| joined(&[0, 1, 2, 3, 4, 5, 6, 7].map(|i| format!("{name}{i}")));
-        let mut text = format!("vertex,level,slab,crossed,tried,{},{}\n", eight("key"), eight("distance"));
+        let nodes = ["key", "distance", "place"].map(eight);
+        let mut text = format!("vertex,level,slab,crossed,tried,{}\n", joined(&nodes));
         for (vertex, level, dual) in &self.cells {
             let slab = slab(*vertex, *level, exponent).expect("an inner vertex");
             let (crossed, distances) = (u8::from(Expected::is_crossed(dual)), dual.distances.map(f32::from_bits));
             text += &format!("{vertex:#x},{level},{slab},{crossed},{},", dual.tried);
-            text += &format!("{},{}\n", joined(&dual.keys), joined(&distances));
+            text += &format!("{},{},{}\n", joined(&dual.keys), joined(&distances), joined(&dual.places));
         }
         text
     }

@@ -17,6 +17,7 @@ use std::rc::Rc;
 /// What out parameters hold before a call.
 const UNTOUCHED: u64 = 0xdead_beef_0bad_cafe;
 const UNTOUCHED_FLOAT: u32 = 0xc2f6_e979;
+const UNTOUCHED_PLACE: u64 = 0x0bad_cafe_dead_beef;
 const UNTOUCHED_COUNT: u32 = 0x7fc1_2345;
 
 /// How often each answer was seen.
@@ -144,7 +145,14 @@ pub struct Given {
 /// Calls a function of the boundary with some of the tables first, each a pointer and a length.
 macro_rules! with_tables {
     ($call:ident, $given:expr, [$($table:ident),*] $(, $more:expr)*) => {
-        unsafe { $call($($given.$table.part().as_ptr().cast(), $given.$table.part().len(),)* $($more),*) }
+        unsafe { $call($($given.$table.part().as_ptr().cast(), $given.$table.part().len() as u64,)* $($more),*) }
+    };
+}
+
+/// The same with the three of the nodes.
+macro_rules! with_nodes {
+    ($call:ident, $given:expr $(, $more:expr)*) => {
+        with_tables!($call, $given, [keys, distances, firsts] $(, $more)*)
     };
 }
 
@@ -207,12 +215,15 @@ impl Given {
     /// Both lookups, of which the trusting one answers an unsound tree too.
     pub fn look_up(&self, key: u64, seen: &mut Seen) -> Answer<Lookup> {
         let (expected, trusting) = (self.reading.look_up(key), self.descent.look_up_trusting(key));
-        self.agree_lookup(expected, format_args!("look_up({key:#x})"), |found, distance, tried| {
-            with_tree!(mittenhelm_look_up, self, key, found, distance, tried)
+        self.agree_lookup(expected, format_args!("look_up({key:#x})"), |found, distance, place, tried| {
+            with_tree!(mittenhelm_look_up, self, key, found, distance, place, tried)
         });
-        self.agree_lookup(trusting, format_args!("look_up_trusting({key:#x})"), |found, distance, tried| {
-            with_tables!(mittenhelm_look_up_trusting, self, [keys, distances, firsts], key, found, distance, tried)
+        self.agree_lookup(trusting, format_args!("look_up_trusting({key:#x})"), |found, distance, place, tried| {
+            with_nodes!(mittenhelm_look_up_trusting, self, key, found, distance, place, tried)
         });
+        if let Ok(Lookup::Found { key: found, distance, place, .. }) = trusting {
+            assert!(self.stands(found, distance, place), "{}", self.told(&format_args!("look_up({key:#x})")));
+        }
         if self.reading.is_sound() {
             assert_eq!(trusting, expected, "{}: the way down in a sound tree", self.told(&format_args!("look_up({key:#x})")));
         } else {
@@ -225,21 +236,31 @@ impl Given {
         expected
     }
 
-    /// Makes a lookup that is handed its places, and sees that it hands over what is expected. Of a tree that is trusted, that may be a NaN.
+    /// Whether what was found stands at its place: its distance, or 0 past their end, on any tables, and its key in a sound tree.
+    fn stands(&self, key: u64, distance: u32, place: u64) -> bool {
+        let Tables { keys, distances, .. } = &self.tables;
+        let stored = keys.get(place as usize);
+        let is_right = if self.reading.is_sound() { stored == Some(&key) } else { stored.is_some() };
+        is_right && distances.get(place as usize).copied().unwrap_or(0) == distance
+    }
+
+    /// Makes a lookup that is handed its out parameters, and sees that it hands over what is expected. Of a tree that is trusted, that may
+    /// be a NaN.
     fn agree_lookup(
         &self,
         expected: Answer<Lookup>,
         call: impl Display,
-        look_up: impl FnOnce(&mut u64, &mut f32, &mut u32) -> u32,
+        look_up: impl FnOnce(&mut u64, &mut f32, &mut u64, &mut u32) -> u32,
     ) {
-        let (mut found, mut distance, mut tried) = (UNTOUCHED, f32::from_bits(UNTOUCHED_FLOAT), UNTOUCHED_COUNT);
-        let number = look_up(&mut found, &mut distance, &mut tried);
+        let (mut found, mut distance) = (UNTOUCHED, f32::from_bits(UNTOUCHED_FLOAT));
+        let (mut place, mut tried) = (UNTOUCHED_PLACE, UNTOUCHED_COUNT);
+        let number = look_up(&mut found, &mut distance, &mut place, &mut tried);
         let expected_out = match expected {
-            Ok(Lookup::Found { key, distance, tried }) => (0, key, one_nan(distance), tried),
-            Ok(Lookup::Nothing { tried }) => (0, 0, 0, tried),
-            Err(number) => (number, UNTOUCHED, UNTOUCHED_FLOAT, UNTOUCHED_COUNT),
+            Ok(Lookup::Found { key, distance, place, tried }) => (0, key, one_nan(distance), place, tried),
+            Ok(Lookup::Nothing { tried }) => (0, 0, 0, 0, tried),
+            Err(number) => (number, UNTOUCHED, UNTOUCHED_FLOAT, UNTOUCHED_PLACE, UNTOUCHED_COUNT),
         };
-        self.agree(&(number, found, one_nan(distance.to_bits()), tried), &expected_out, call);
+        self.agree(&(number, found, one_nan(distance.to_bits()), place, tried), &expected_out, call);
     }
 
     /// Both lists from a start place on, in a vertex table and a level table of these lengths; the trusting one answers an unsound
@@ -248,11 +269,11 @@ impl Given {
         let (listed, walked) = (self.reading.vertices(), self.walked());
         let call = format!("from {start:#x} on in tables of {} and {}", lengths[0], lengths[1]);
         let expected = self.agree_list(listed, start, lengths, &format!("list {call}"), |vertices, v, levels, l, count| {
-            with_tree!(mittenhelm_list, self, start, vertices, v, levels, l, count)
+            with_tree!(mittenhelm_list, self, start as u64, vertices, v, levels, l, count)
         });
         let call = format!("list_trusting {call}");
         let trusting = self.agree_list(Ok(walked), start, lengths, &call, |vertices, v, levels, l, count| {
-            with_tables!(mittenhelm_list_trusting, self, [keys, firsts], start, vertices, v, levels, l, count)
+            with_tables!(mittenhelm_list_trusting, self, [keys, firsts], start as u64, vertices, v, levels, l, count)
         });
         self.cells_around(start, lengths, seen);
         if !self.reading.is_sound() {
@@ -274,17 +295,16 @@ impl Given {
         start: usize,
         [vertices, levels]: [usize; 2],
         call: &str,
-        list: impl FnOnce(*mut u64, usize, *mut u8, usize, &mut usize) -> u32,
+        list: impl FnOnce(*mut u64, u64, *mut u8, u64, &mut u64) -> u32,
     ) -> Answer<usize> {
         let (mut vertices, mut levels) = (vertices_before(vertices), levels_before(levels));
         let (mut our_vertices, mut our_levels) = (Fenced::new(&vertices), Fenced::new(&levels));
         let expected = listed.and_then(|listed| reading::write_list(&listed, start, &mut vertices, &mut levels));
 
-        let mut count = UNTOUCHED as usize;
-        let (lent_vertices, lent_levels) = (our_vertices.lend(), our_levels.lend());
-        let number =
-            list(lent_vertices.as_mut_ptr(), lent_vertices.len(), lent_levels.as_mut_ptr(), lent_levels.len(), &mut count);
-        let expected_out = expected.map_or_else(|number| (number, UNTOUCHED as usize), |count| (0, count));
+        let mut count = UNTOUCHED;
+        let (v, l) = (our_vertices.lend(), our_levels.lend());
+        let number = list(v.as_mut_ptr(), v.len() as u64, l.as_mut_ptr(), l.len() as u64, &mut count);
+        let expected_out = expected.map_or_else(|number| (number, UNTOUCHED), |count| (0, count as u64));
         self.agree(&(number, count), &expected_out, call);
         our_vertices.assert_holds(&vertices, "vertices", &|| self.told(&call));
         our_levels.assert_holds(&levels, "levels", &|| self.told(&call));
@@ -316,11 +336,11 @@ impl Given {
         let expected = reading::write_placed(placed, from, &mut vertices, &mut levels, &mut places);
 
         let (v, l, p) = (our_vertices.lend(), our_levels.lend(), our_places.lend());
-        let lengths = [v.len(), l.len(), p.len()];
+        let lengths = [v.len(), l.len(), p.len()].map(|length| length as u64);
         let (v, l, p) = (v.as_mut_ptr(), l.as_mut_ptr(), p.as_mut_ptr());
         let count =
             with_tables!(mittenhelm_cells_trusting, self, [keys, firsts], from, v, lengths[0], l, lengths[1], p, lengths[2]);
-        self.agree(&count, &expected, &call);
+        self.agree(&count, &(expected as u64), &call);
         our_vertices.assert_holds(&vertices, "vertices", &|| self.told(&call));
         our_levels.assert_holds(&levels, "levels", &|| self.told(&call));
         our_places.assert_holds(&places, "places", &|| self.told(&call));
@@ -336,12 +356,16 @@ impl Given {
     pub fn dual_cell(&self, vertex: u64, level: u32, seen: &mut Seen) -> Answer<DualCell> {
         let (expected, trusting) = (self.reading.dual_cell(vertex, level), self.descent.dual_cell_trusting(vertex, level));
         let call = format!("dual_cell({vertex:#x}, {level})");
-        self.agree_cell(expected, &call, |keys, distances, tried| {
-            with_tree!(mittenhelm_dual_cell, self, vertex, level, keys, distances, tried)
+        self.agree_cell(expected, &call, |keys, distances, places, tried| {
+            with_tree!(mittenhelm_dual_cell, self, vertex, level, keys, distances, places, tried)
         });
-        self.agree_cell(trusting, &format!("trusting {call}"), |keys, distances, tried| {
-            with_tables!(mittenhelm_dual_cell_trusting, self, [keys, distances, firsts], vertex, level, keys, distances, tried)
+        self.agree_cell(trusting, &format!("trusting {call}"), |keys, distances, places, tried| {
+            with_nodes!(mittenhelm_dual_cell_trusting, self, vertex, level, keys, distances, places, tried)
         });
+        if let Ok(DualCell { keys, distances, places, .. }) = trusting {
+            let stands = |i: usize| keys[i] == 0 || self.stands(keys[i], distances[i], places[i]);
+            assert!((0..8).all(stands), "{}", self.told(&call));
+        }
         if self.reading.is_sound() {
             assert_eq!(trusting, expected, "{}: the ways down in a sound tree", self.told(&call));
         } else {
@@ -354,28 +378,52 @@ impl Given {
         expected
     }
 
-    /// Makes a call for a dual cell that is handed its places, and sees that it hands over what is expected, which may be NaNs of a tree
-    /// that is trusted.
+    /// Makes a call for a dual cell that is handed its out parameters, and sees that it hands over what is expected, which may be NaNs of a
+    /// tree that is trusted.
     fn agree_cell(
         &self,
         expected: Answer<DualCell>,
         call: &str,
-        dual_cell: impl FnOnce(&mut [u64; 8], &mut [f32; 8], &mut u32) -> u32,
+        dual_cell: impl FnOnce(&mut [u64; 8], &mut [f32; 8], &mut [u64; 8], &mut u32) -> u32,
     ) {
-        let (mut keys, mut distances, mut tried) =
-            (Fenced::new(&[UNTOUCHED; 8]), Fenced::new(&[UNTOUCHED_FLOAT; 8]), UNTOUCHED_COUNT);
-        // Eight places each; a float may hold any bits.
-        let (lent_keys, lent_distances) =
-            unsafe { (&mut *keys.lend().as_mut_ptr().cast(), &mut *distances.lend().as_mut_ptr().cast()) };
-        let number = dual_cell(lent_keys, lent_distances, &mut tried);
+        let untouched = DualCell {
+            keys: [UNTOUCHED; 8],
+            distances: [UNTOUCHED_FLOAT; 8],
+            places: [UNTOUCHED_PLACE; 8],
+            tried: UNTOUCHED_COUNT,
+        };
+        let (mut keys, mut places) = (Fenced::new(&untouched.keys), Fenced::new(&untouched.places));
+        let (mut distances, mut tried) = (Fenced::new(&untouched.distances), untouched.tried);
+        // Eight of each; a float may hold any bits.
+        let (lent_keys, lent_distances, lent_places) = unsafe {
+            (
+                &mut *keys.lend().as_mut_ptr().cast(),
+                &mut *distances.lend().as_mut_ptr().cast(),
+                &mut *places.lend().as_mut_ptr().cast(),
+            )
+        };
+        let number = dual_cell(lent_keys, lent_distances, lent_places, &mut tried);
         let (expected_number, cell) = match expected {
             Ok(cell) => (0, cell),
-            Err(number) => (number, DualCell { keys: [UNTOUCHED; 8], distances: [UNTOUCHED_FLOAT; 8], tried: UNTOUCHED_COUNT }),
+            Err(number) => (number, untouched),
         };
         self.agree(&(number, tried), &(expected_number, cell.tried), call);
         keys.assert_holds(&cell.keys, "eight keys", &|| self.told(&call));
+        places.assert_holds(&cell.places, "eight places", &|| self.told(&call));
         distances.lend().iter_mut().for_each(|bits| *bits = one_nan(*bits));
         distances.assert_holds(&cell.distances.map(one_nan), "eight distances", &|| self.told(&call));
+    }
+
+    /// Each vertex that is handed out with places has a dual cell, and that the same places, on any tables. The answer is their number.
+    pub fn cells_as_dual_cells(&self, seen: &mut Seen) -> usize {
+        let placed = &self.walk().placed;
+        self.cells(0, [placed.len(), placed.len(), 8 * placed.len()], seen);
+        for at in placed {
+            let _ = self.dual_cell(at.vertex, at.level, seen);
+            let places = self.descent.dual_cell_trusting(at.vertex, at.level).map(|cell| cell.places);
+            assert_eq!(places, Ok(at.places), "{}", self.told(&format_args!("the dual cell of {:#x}", at.vertex)));
+        }
+        placed.len()
     }
 
     /// Each call once, with parameters of all kinds. Of an unsound tree those that check it tell nothing, whatever else is wrong.

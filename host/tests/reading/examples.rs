@@ -87,7 +87,12 @@ fn room_for_the_most_vertices() {
 fn a_dual_cell_of_two_levels() {
     let corner = mittenhelm::vertex(519, 3, 7).expect("a cell key with its own level");
     let cell = Built::new(3, at_64).read(|tree| tree.dual_cell(corner, 3));
-    let expected = DualCell { keys: [71, 70, 69, 68, 67, 66, 65, 519], distances: [1.0; 8], tried: 15 };
+    let expected = DualCell {
+        keys: [71, 70, 69, 68, 67, 66, 65, 519],
+        distances: [1.0; 8],
+        places: [16, 15, 14, 13, 12, 11, 10, 80],
+        tried: 15,
+    };
     assert_eq!(cell, Ok(expected));
 }
 
@@ -96,6 +101,30 @@ fn a_dual_cell_of_the_finest_level() {
     let corner = mittenhelm::vertex(512, 3, 7).expect("a cell key with its own level");
     let cell = Built::new(3, at_64).read(|tree| tree.dual_cell(corner, 3)).expect("an inner vertex");
     assert_eq!((cell.keys, cell.tried), ([519, 518, 517, 516, 515, 514, 513, 512], 8));
+    assert_eq!(cell.places, [80, 79, 78, 77, 76, 75, 74, 73]);
+}
+
+/// The example of the header and of `DualCell`: which of the eight entries is which.
+#[test]
+fn the_middle_of_nine_nodes() {
+    let tree = Tree {
+        keys: &[1, 8, 9, 10, 11, 12, 13, 14, 15],
+        distances: &[0.0, 0.5, 1.0, 1.5, 2.0, 2.5, 3.0, 3.5, 4.0],
+        firsts: &[1, 0, 0, 0, 0, 0, 0, 0, 0],
+        leaves: &[8, 9, 10, 11, 12, 13, 14, 15],
+    };
+    let expected = DualCell {
+        keys: [15, 14, 13, 12, 11, 10, 9, 8],
+        distances: [4.0, 3.5, 3.0, 2.5, 2.0, 1.5, 1.0, 0.5],
+        places: [8, 7, 6, 5, 4, 3, 2, 1],
+        tried: 8,
+    };
+    assert_eq!(tree.dual_cell(MIDDLE, 1), Ok(expected));
+    assert_eq!(tree.checked().and_then(|tree| tree.dual_cell(MIDDLE, 1)), Ok(expected));
+    for (corner, key) in (0..8).zip(expected.keys) {
+        assert_eq!(mittenhelm::vertex(key, 1, corner), Ok(MIDDLE), "entry {corner}");
+    }
+    assert_eq!(mittenhelm::centre(15), Ok([0.75; 3]));
 }
 
 /// The same dual cells by the text, whose tree of this field is another one: the integer build's.
@@ -117,9 +146,9 @@ fn the_examples_by_the_text() {
 #[test]
 fn lookups() {
     let look_up = |key| Built::new(3, at_64).read(|tree| tree.look_up(key).map_err(|refusal| refusal.number()));
-    assert_eq!(look_up(64), Ok(Lookup::Found { key: 64, distance: 0.0, tried: 1 }));
-    assert_eq!(look_up(65 * 64 + 9), Ok(Lookup::Found { key: 65, distance: 1.0, tried: 3 }));
-    assert_eq!(look_up(u64::MAX), Ok(Lookup::Found { key: 127, distance: 1.0, tried: 20 }));
+    assert_eq!(look_up(64), Ok(Lookup::Found { key: 64, distance: 0.0, place: 9, tried: 1 }));
+    assert_eq!(look_up(65 * 64 + 9), Ok(Lookup::Found { key: 65, distance: 1.0, place: 10, tried: 3 }));
+    assert_eq!(look_up(u64::MAX), Ok(Lookup::Found { key: 127, distance: 1.0, place: 72, tried: 20 }));
     assert_eq!(look_up(1), Ok(Lookup::Nothing { tried: 0 }));
     assert_eq!(look_up(16), Err(1));
     assert_eq!(ROOT.look_up(u64::MAX), Ok(Lookup::Nothing { tried: 21 }));
@@ -193,8 +222,8 @@ fn wrappers() {
         for _ in 0..50 {
             let key = random.number();
             let expected = model.look_up(key).map(|answer| match answer {
-                reading::Lookup::Found { key, distance, tried } => {
-                    Lookup::Found { key, distance: f32::from_bits(distance), tried }
+                reading::Lookup::Found { key, distance, place, tried } => {
+                    Lookup::Found { key, distance: f32::from_bits(distance), place, tried }
                 }
                 reading::Lookup::Nothing { tried } => Lookup::Nothing { tried },
             });
@@ -204,6 +233,7 @@ fn wrappers() {
             let expected = model.dual_cell(vertex, level).map(|cell| DualCell {
                 keys: cell.keys,
                 distances: cell.distances.map(f32::from_bits),
+                places: cell.places,
                 tried: cell.tried,
             });
             assert_eq!(tree.dual_cell(vertex, level).map_err(number), expected);

@@ -46,9 +46,10 @@ fn of_every_key() {
     let (mut random, mut seen) = (Random::new(2), Seen::default());
     for (splits, growth) in [(0, Growth::Even), (1, Growth::Even), (9, Growth::Even), (40, Growth::Any), (40, Growth::Deep)] {
         let given = Given::new(grown(growth, splits, 15, &mut random));
-        for &key in &given.tables.keys {
+        for (stands_at, &key) in (0..).zip(&given.tables.keys) {
             let answer = given.look_up(key, &mut seen);
-            assert_eq!(matches!(answer, Ok(Lookup::Found { key: found, tried: 1, .. }) if found == key), key != 1);
+            let itself = matches!(answer, Ok(Lookup::Found { key: k, place, tried: 1, .. }) if (k, place) == (key, stands_at));
+            assert_eq!(itself, key != 1);
         }
         for &leaf in &given.tables.leaves {
             for at in level(leaf) + 1..=DEEPEST {

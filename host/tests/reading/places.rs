@@ -1,8 +1,10 @@
 //! Vertices with the places of the nodes round them, some at a time. `Given::list` asks for them too, in the tables of every list.
+//! The places are those of the dual cells, on tables that hold no sound tree too.
 
 use crate::calls::{Given, Seen};
 use mittenhelm::{SoundTree, Tree};
 use oracle_answers::inputs::Random;
+use oracle_answers::misled::FORGERIES;
 use oracle_answers::trees::{grown, Growth, GROWTHS};
 
 /// All lengths of the three tables up to room for two, or for three with part of a fourth, from each number around each vertex on.
@@ -30,7 +32,7 @@ fn every_room() {
 }
 
 /// Goes over all vertices by so many at a time, as a host does: each with its level and its places.
-fn in_batches(tree: SoundTree, room: usize) -> Vec<(u64, u32, [usize; 8])> {
+fn in_batches(tree: SoundTree, room: usize) -> Vec<(u64, u32, [u64; 8])> {
     let (mut vertices, mut levels, mut places) = (vec![0; room], vec![0; room], vec![0; 8 * room]);
     let (mut all, mut from) = (Vec::new(), 0);
     loop {
@@ -45,7 +47,7 @@ fn in_batches(tree: SoundTree, room: usize) -> Vec<(u64, u32, [usize; 8])> {
     }
 }
 
-/// All batches together are the list, and their places hold what the dual cells have.
+/// All batches together are the list, and their places are those of the dual cells, whose keys and distances they hold.
 #[test]
 fn in_batches_of_every_size() {
     let mut random = Random::new(2);
@@ -62,8 +64,9 @@ fn in_batches_of_every_size() {
             assert_eq!(all.iter().map(|&(vertex, level, _)| (vertex, level)).collect::<Vec<_>>(), vertices);
             for (vertex, level, places) in all {
                 let cell = tree.dual_cell(vertex, level).expect("a listed vertex");
-                assert_eq!(places.map(|place| tables.keys[place]), cell.keys, "{vertex:#x} of level {level}");
-                assert_eq!(places.map(|place| distances[place]), cell.distances, "{vertex:#x} of level {level}");
+                assert_eq!(places, cell.places, "{vertex:#x} of level {level}");
+                assert_eq!(places.map(|place| tables.keys[place as usize]), cell.keys, "{vertex:#x} of level {level}");
+                assert_eq!(places.map(|place| distances[place as usize]), cell.distances, "{vertex:#x} of level {level}");
                 levels[level as usize] += 1;
             }
         }
@@ -87,4 +90,24 @@ fn of_great_trees() {
         }
     }
     assert!(seen.all_placed >= 6 && seen.some_placed > 6, "{seen:?}");
+}
+
+/// Whatever first children and keys are forged: each vertex that is handed out has a dual cell, which has the same eight places.
+#[test]
+fn of_misled_tables() {
+    let (mut random, mut seen) = (Random::new(4), Seen::default());
+    let mut unsound = 0;
+    for (what, forge) in FORGERIES {
+        let before = unsound;
+        for round in 0..90 {
+            let mut tables = grown(GROWTHS[round % 3], 1 + round / 3, [15, 3, 21][random.below(3) as usize], &mut random);
+            forge(&mut tables, &mut random);
+            let given = Given::new(tables);
+            let vertices = given.cells_as_dual_cells(&mut seen);
+            unsound += if given.reading.is_sound() { 0 } else { vertices };
+        }
+        println!("{what}: {} vertices", unsound - before);
+    }
+    assert!(unsound > 40_000, "{unsound}");
+    assert_eq!((seen.trusted.whole_cells, seen.trusted.empty_cells), (unsound as u64, 0));
 }

@@ -25,9 +25,13 @@ struct Compared {
 
 type Vertices = Vec<(u64, usize)>;
 
+/// Where the text found eight nodes.
+fn found(places: [Option<usize>; 8]) -> [usize; 8] {
+    places.map(|place| place.expect("the text finds a node"))
+}
+
 /// The eight nodes at these places of a tree. The text has no count of keys tried.
-fn nodes(tables: &Tables, places: [Option<usize>; 8]) -> ([u64; 8], [u32; 8]) {
-    let places = places.map(|place| place.expect("the text finds a node"));
+fn nodes(tables: &Tables, places: [usize; 8]) -> ([u64; 8], [u32; 8]) {
     (places.map(|place| tables.keys[place]), places.map(|place| tables.distances[place]))
 }
 
@@ -50,7 +54,8 @@ fn compare(given: &Given, seen: &mut Seen) -> Vec<(u64, u32, DualCell)> {
             // The search asks for no level of a key, so no differing one reaches it.
             published::search_eight_nodes(keys, leaves, &listed),
         ] {
-            for (&(vertex, _, cell), places) in ours.iter().zip(searched) {
+            for (&(vertex, _, cell), places) in ours.iter().zip(searched.into_iter().map(found)) {
+                assert_eq!(cell.places, places.map(|place| place as u64), "the dual cell of {vertex:#x}");
                 assert_eq!(eight(cell), nodes(&given.tables, places), "the dual cell of {vertex:#x}");
             }
         }
@@ -105,7 +110,7 @@ fn compare_own(tree: &Tree, theirs: &Tree, ours: &[(u64, u32, DualCell)], compar
     }
     let searched = published::search_eight_nodes(&tables.keys, &tables.leaves, &listed);
     for (&&(vertex, _, cell), places) in same.iter().zip(searched) {
-        assert_eq!(eight(cell), nodes(&tables, places), "the published dual cell of {vertex:#x}");
+        assert_eq!(eight(cell), nodes(&tables, found(places)), "the published dual cell of {vertex:#x}");
     }
     compared.own_cells += same.len() as u64;
     compared.own_reached += reached.len() as u64;

@@ -7,8 +7,8 @@ use mittenhelm::most_vertices;
 use oracle_answers::broken::change;
 use oracle_answers::inputs::{last_cell, Random};
 use oracle_answers::misled::FORGERIES;
-use oracle_answers::model::level;
 use oracle_answers::model::reading::{firsts_of, Lookup, Reading, Tables};
+use oracle_answers::model::{level, Answer};
 use oracle_answers::trees::{grown, Growth, GROWTHS};
 
 /// Keys below a bound, so that many are cells, or twice there; sometimes sorted, as far as that makes them ascend.
@@ -71,13 +71,10 @@ fn any_tables() {
         for _ in 0..8 {
             let key = given.asked(&mut random);
             let _ = given.look_up(key, &mut seen);
-            let places = |key| given.tables.keys.iter().enumerate().filter(move |&(_, &there)| there == key);
             match given.descent.look_up_trusting(key) {
-                Ok(Lookup::Found { key: found, distance: 0, .. }) => {
-                    without += places(found).all(|(place, _)| place >= given.tables.distances.len()) as u64;
-                }
+                Ok(Lookup::Found { place, .. }) if place as usize >= given.tables.distances.len() => without += 1,
                 Ok(Lookup::Found { key: found, .. }) if found == key => {}
-                Ok(_) => missed += (key != 1 && places(key).count() > 0) as u64,
+                Ok(_) => missed += (key != 1 && given.tables.keys.contains(&key)) as u64,
                 Err(_) => {}
             }
             let (vertex, level) = random.vertex_and_level();
@@ -99,7 +96,7 @@ fn assert_linear(given: &Given) {
     let (keys, walk) = (given.tables.keys.len(), given.walk());
     assert!(walk.placed.len() <= most_vertices(keys), "{} vertices of {keys} keys", walk.placed.len());
     assert!(walk.cells <= 1 + 64 * (keys / 8), "{} cells of {keys} keys", walk.cells);
-    assert!(walk.placed.iter().all(|at| at.places.iter().all(|&place| place < keys)));
+    assert!(walk.placed.iter().all(|at| at.places.iter().all(|&place| place < keys as u64)));
 }
 
 /// Lists in tables that have room for all vertices that there could be, which are never refused, and in those with one place less.
@@ -214,12 +211,24 @@ fn forged_first_children_of_great_trees() {
     assert!(seen.trusted.lists > 20 && seen.trusted.empty_lists > 20, "{seen:?}");
 }
 
-/// The eights of a sound tree in another order, each led to where it stands: no sound tree, and every answer is that of the sound one.
+/// A lookup's answer with 0 for the place, and the place apart, where the key found has to stand.
+fn place_apart(given: &Given, asked: u64) -> (Answer<Lookup>, u64) {
+    match given.descent.look_up_trusting(asked) {
+        Ok(Lookup::Found { key, distance, place, tried }) => {
+            assert_eq!(given.tables.keys[place as usize], key);
+            (Ok(Lookup::Found { key, distance, place: 0, tried }), place)
+        }
+        other => (other, 0),
+    }
+}
+
+/// The eights of a sound tree in another order, each led to where it stands: no sound tree, and every answer is that of the sound one, but
+/// for the places.
 #[test]
 fn eights_in_another_order() {
     let (mut random, mut seen) = (Random::new(6), Seen::default());
     let (_, reorder) = FORGERIES.into_iter().find(|(what, _)| what.contains("another order")).expect("a way of that name");
-    let mut others = 0;
+    let (mut others, mut moved) = (0, 0);
     for round in 0..400 {
         let sound = Given::new(grown(GROWTHS[round % 3], 1 + round / 8, 15, &mut random));
         let mut tables = sound.tables.clone();
@@ -231,10 +240,12 @@ fn eights_in_another_order() {
         for _ in 0..50 {
             let key = sound.asked(&mut random);
             let _ = given.look_up(key, &mut seen);
-            assert_eq!(given.descent.look_up_trusting(key), sound.descent.look_up_trusting(key));
+            let ((answer, place), (sound_answer, sound_place)) = (place_apart(&given, key), place_apart(&sound, key));
+            assert_eq!(answer, sound_answer);
+            moved += (place != sound_place) as u64;
         }
     }
-    assert!(others > 300, "{others}");
+    assert!(others > 300 && moved > 10_000, "{others}, {moved}");
 }
 
 /// A way with one step for each eight places, down to level 21: a lookup goes all of it, the walk to level 15.
@@ -255,7 +266,8 @@ fn the_longest_way() {
             let found = level.min(deepest);
             assert_eq!(given.look_up(asked, &mut seen), Err(11));
             let (key, distance, tried) = (last_cell(found), 8 * found, level - found + 1);
-            assert_eq!(given.descent.look_up_trusting(asked), Ok(Lookup::Found { key, distance, tried }));
+            let place = distance.into();
+            assert_eq!(given.descent.look_up_trusting(asked), Ok(Lookup::Found { key, distance, place, tried }));
         }
         let _ = given.list(0, [most_vertices(given.tables.keys.len()); 2], &mut seen);
         assert_linear(&given);

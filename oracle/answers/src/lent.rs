@@ -5,7 +5,7 @@ use std::fmt::Debug;
 /// Places before and behind each lent part, where nothing may be written.
 const FENCE: usize = 8;
 
-/// What a table holds: keys, the bits of distances, places, or levels.
+/// What a table holds: keys or places in the node tables, the bits of distances, places of first children, or levels.
 pub trait Place: Copy + PartialEq + Debug {
     /// What stands in a fence.
     const FENCE: Self;
@@ -25,10 +25,6 @@ impl Place for u16 {
 
 impl Place for u8 {
     const FENCE: Self = 0xfe;
-}
-
-impl Place for usize {
-    const FENCE: Self = <u64 as Place>::FENCE as usize;
 }
 
 /// Lent memory with a fence on both sides.
@@ -86,8 +82,8 @@ pub fn levels_before(length: usize) -> Vec<u8> {
 }
 
 /// The same of places in the node tables.
-pub fn places_before(length: usize) -> Vec<usize> {
-    (0..length).map(|place| usize::MAX - place).collect()
+pub fn places_before(length: usize) -> Vec<u64> {
+    (0..length as u64).map(|place| u64::MAX - place).collect()
 }
 
 /// No promise settles the bits of a NaN, which calls that trust a tree hand on: one stands for all.

@@ -14,7 +14,7 @@ enum-known-answer-3 : tie.Need-enum-known-answer-3
 enum-known-answer-3 c = search needs
 
 returns : tie.Need-returns
-returns c = found-is _ _ _ _ _ (c .before .answer .given .1)
+returns c = found-is _ _ _ _ _ _ (c .before .answer .given .1)
 
 returns-2 : tie.Need-returns-2
 returns-2 c = found-nothing _ _ _ (c .before .answer2 .given .1)

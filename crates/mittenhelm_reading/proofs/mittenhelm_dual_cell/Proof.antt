@@ -10,7 +10,7 @@ hand-eight-requires : tie.Need-hand-eight-requires
 hand-eight-requires c κs = search needs
 
 returns : tie.Need-returns
-returns c = let a = c .before .before .before .before .dual-cell in (a .result, a .ensures, c .hand-eight .ensures)
+returns c = let a = c .before .before .before .before .before .dual-cell in (a .result, a .ensures, c .hand-eight .ensures)
 
 pub mittenhelm-dual-cell-spec : {M : Type 1} → statement M
 mittenhelm-dual-cell-spec = tie.close (tie.spec dual-cell-requires hand-eight-requires returns)

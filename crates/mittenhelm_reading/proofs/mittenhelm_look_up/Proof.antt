@@ -10,7 +10,7 @@ hand-found-requires : tie.Need-hand-found-requires
 hand-found-requires c κs = search needs
 
 returns : tie.Need-returns
-returns c = let a = c .before .before .before .before .look-up in (a .result, a .ensures, c .hand-found .ensures)
+returns c = let a = c .before .before .before .before .before .look-up in (a .result, a .ensures, c .hand-found .ensures)
 
 pub mittenhelm-look-up-spec : {M : Type 1} → statement M
 mittenhelm-look-up-spec = tie.close (tie.spec look-up-requires hand-found-requires returns)

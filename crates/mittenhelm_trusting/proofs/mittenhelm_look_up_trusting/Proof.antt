@@ -11,7 +11,7 @@ hand-found-requires : tie.Need-hand-found-requires
 hand-found-requires c κs = search needs
 
 returns : tie.Need-returns
-returns c = found-as _ _ _ _ _ (c .before .before .before .before .look-up-trusting .ensures) (c .hand-found .ensures)
+returns c = found-as _ _ _ _ _ (c .before .before .before .before .before .look-up-trusting .ensures) (c .hand-found .ensures)
 
 pub mittenhelm-look-up-trusting-spec : {M : Type 1} → statement M
 mittenhelm-look-up-trusting-spec = tie.close (tie.spec look-up-trusting-requires hand-found-requires returns)

@@ -20,27 +20,28 @@ pub struct Tables {
 const GREATEST_LEVEL: u32 = 15;
 const GREATEST_EXPONENT: u32 = 15;
 
-/// What a lookup answers: both with the number of keys tried.
+/// What a lookup answers: both with the number of keys tried. A place is where in the node tables the node stands.
 #[derive(Clone, Copy, Debug, PartialEq, Eq)]
 pub enum Lookup {
-    Found { key: u64, distance: u32, tried: u32 },
+    Found { key: u64, distance: u32, place: u64, tried: u32 },
     Nothing { tried: u32 },
 }
 
-/// Eight keys and eight distances in corner order, and the sum of keys tried.
+/// Eight keys, distances and places, and the sum of keys tried. Entry w is for the cell that has the vertex at its corner w.
 #[derive(Clone, Copy, Debug, PartialEq, Eq)]
 pub struct DualCell {
     pub keys: [u64; 8],
     pub distances: [u32; 8],
+    pub places: [u64; 8],
     pub tried: u32,
 }
 
-/// A vertex with its level, and the places in the node tables of the eight nodes round it, in corner order.
+/// A vertex with its level, and the places of the eight nodes round it, in the order of a dual cell.
 #[derive(Clone, Copy, Debug, PartialEq, Eq)]
 pub struct Placed {
     pub vertex: u64,
     pub level: u32,
-    pub places: [usize; 8],
+    pub places: [u64; 8],
 }
 
 fn ascends(keys: &[u64]) -> bool {
@@ -98,7 +99,9 @@ pub struct Reading {
 }
 
 struct Sound {
-    nodes: BTreeMap<u64, u32>,
+    /// Where each key stands.
+    places: BTreeMap<u64, usize>,
+    distances: Vec<u32>,
     vertices: BTreeMap<u64, u32>,
 }
 
@@ -119,10 +122,8 @@ fn vertices(leaves: &[u64]) -> BTreeMap<u64, u32> {
 
 impl Reading {
     pub fn of(tables: &Tables) -> Self {
-        let sound = || Sound {
-            nodes: tables.keys.iter().copied().zip(tables.distances.iter().copied()).collect(),
-            vertices: vertices(&tables.leaves),
-        };
+        let sound =
+            || Sound { places: places(&tables.keys), distances: tables.distances.clone(), vertices: vertices(&tables.leaves) };
         Reading { tree: Some(tables).filter(|tables| tables.is_sound()).map(|_| sound()) }
     }
 
@@ -149,9 +150,7 @@ impl Reading {
 
     /// Every vertex with the places of the nodes that its dual cell has.
     pub fn placed(&self) -> Answer<Vec<Placed>> {
-        let keys: Vec<u64> = self.sound()?.nodes.keys().copied().collect();
-        let place_of = |key| keys.binary_search(&key).expect("a key of the tree");
-        let placed = |(vertex, level)| Ok(Placed { vertex, level, places: self.dual_cell(vertex, level)?.keys.map(place_of) });
+        let placed = |(vertex, level)| Ok(Placed { vertex, level, places: self.dual_cell(vertex, level)?.places });
         self.vertices()?.into_iter().map(placed).collect()
     }
 
@@ -162,7 +161,7 @@ impl Reading {
 
     pub fn dual_cell(&self, vertex: u64, level: u32) -> Answer<DualCell> {
         let tree = self.sound()?;
-        if !is_inner(vertex, level) || tree.nodes.len() == 1 {
+        if !is_inner(vertex, level) || tree.places.len() == 1 {
             return Err(4);
         }
         let cell = around(vertex, level, |side| tree.look_up(side));
@@ -185,7 +184,7 @@ pub fn write_list(list: &[(u64, u32)], start: usize, vertices: &mut [u64], level
 }
 
 /// Writes the vertices that are no less than a number, as many as have room, with their levels and places. The answer is how many.
-pub fn write_placed(placed: &[Placed], from: u64, vertices: &mut [u64], levels: &mut [u8], places: &mut [usize]) -> usize {
+pub fn write_placed(placed: &[Placed], from: u64, vertices: &mut [u64], levels: &mut [u8], places: &mut [u64]) -> usize {
     let room = vertices.len().min(levels.len()).min(places.len() / 8);
     let wanted: Vec<&Placed> = placed.iter().filter(|at| at.vertex >= from).take(room).collect();
     for (i, at) in wanted.iter().enumerate() {
@@ -196,14 +195,15 @@ pub fn write_placed(placed: &[Placed], from: u64, vertices: &mut [u64], levels: 
     wanted.len()
 }
 
-/// What is looked up on the eight sides of an inner vertex; where nothing is found the entry is 0 and 0.
+/// What is looked up on the eight sides of an inner vertex; where nothing is found, key, distance and place are 0.
 fn around(vertex: u64, level: u32, look_up: impl Fn(u64) -> Lookup) -> DualCell {
-    let mut cell = DualCell { keys: [0; 8], distances: [0; 8], tried: 0 };
+    let mut cell = DualCell { keys: [0; 8], distances: [0; 8], places: [0; 8], tried: 0 };
     for which in 0..8 {
         match look_up(side(vertex, level, which as u32).expect("an inner vertex")) {
-            Lookup::Found { key, distance, tried } => {
+            Lookup::Found { key, distance, place, tried } => {
                 cell.keys[which] = key;
                 cell.distances[which] = distance;
+                cell.places[which] = place;
                 cell.tried += tried;
             }
             Lookup::Nothing { tried } => cell.tried += tried,
@@ -267,7 +267,7 @@ impl Descent {
             (1, _) => Lookup::Nothing { tried: level(asked) },
             (key, place) => {
                 let distance = self.distances.get(place).copied().unwrap_or(0);
-                Lookup::Found { key, distance, tried: level(asked) - level(key) + 1 }
+                Lookup::Found { key, distance, place: place as u64, tried: level(asked) - level(key) + 1 }
             }
         }
     }
@@ -313,7 +313,7 @@ impl Descent {
                 children(cell).for_each(|child| self.go_over(at + 1, child, walk));
             }
         } else if entries.iter().all(Option::is_some) && of_level.next().is_some() {
-            let places = entries.map(|entry| entry.map_or(0, |(_, place)| place));
+            let places = entries.map(|entry| entry.map_or(0, |(_, place)| place as u64));
             walk.placed.push(Placed { vertex: cell * power_of_8(DEEPEST - at) as u64, level: at, places });
         }
     }
@@ -331,8 +331,9 @@ impl Sound {
     fn look_up(&self, asked: u64) -> Lookup {
         let mut key = asked;
         while level(key) >= 1 {
-            if let Some(&distance) = self.nodes.get(&key) {
-                return Lookup::Found { key, distance, tried: level(asked) - level(key) + 1 };
+            if let Some(&place) = self.places.get(&key) {
+                let (distance, tried) = (self.distances[place], level(asked) - level(key) + 1);
+                return Lookup::Found { key, distance, place: place as u64, tried };
             }
             key /= 8;
         }

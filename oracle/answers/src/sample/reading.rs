@@ -5,16 +5,17 @@
 //! |---|---|---|---|---|---|---|
 //! | 10 put | place, first child, distance | key | leaf | | | |
 //! | 11 sound | lengths | | | 1 or 0 | | |
-//! | 12 look_up | lengths | key | | key found | its distance | keys tried |
+//! | 12 look_up | lengths | key | | key found | its distance | keys tried, place |
 //! | 13 list | lengths | start | both lengths | count | | |
 //! | 14 listed | place | | | vertex | level | |
-//! | 15 dual_cell | lengths | vertex | level, corner | key of the corner | its distance | keys tried for all eight |
+//! | 15 dual_cell | lengths | vertex | level, entry | key of the entry | its distance | keys tried for all eight, place |
 //! | 16 slab | vertex | level | exponent | slab | | |
 //!
 //! Put writes one place of keys, distances, first children and leaves; the place and that of the first child have 16 bits each, and the
-//! distance stands in A's high half, as the corner does in C's. Lengths are those of keys, distances, first children and leaves in 16
-//! bits each from the lowest on. A list line sets every place of a vertex table and a level table of 1,024 to 0, and lends as many as C
-//! says, 16 bits each; a listed line tells what then stands at a place of both. A lookup that answers nothing has key and distance 0.
+//! distance stands in A's high half, as the entry does in C's and the place of what was found in Z's. Lengths are those of keys,
+//! distances, first children and leaves in 16 bits each from the lowest on. A list line sets every place of a vertex table and a level
+//! table of 1,024 to 0, and lends as many as C says, 16 bits each; a listed line tells what then stands at a place of both. A lookup
+//! that answers nothing has key, distance and place 0.
 
 use super::lines::{packed, Sample};
 use crate::inputs::{first_cell, last_cell, BROKEN_DISTANCES, GREATEST_DISTANCES};
@@ -95,6 +96,11 @@ impl Put {
     }
 }
 
+/// What a line says that was found: Z has the place above the number tried.
+fn found(key: u64, distance: u32, place: u64, tried: u32) -> [u64; 3] {
+    [key, distance as u64, tried as u64 | place << 32]
+}
+
 impl Sample {
     fn put_at(&mut self, put: &Put, place: usize) {
         let at = |table: &[u64]| table.get(place).copied().unwrap_or(0);
@@ -129,8 +135,8 @@ impl Sample {
 
     fn look_up(&mut self, put: &Put, key: u64) {
         let answer = put.reading().look_up(key).map(|answer| match answer {
-            Lookup::Found { key, distance, tried } => [key, distance as u64, tried as u64],
-            Lookup::Nothing { tried } => [0, 0, tried as u64],
+            Lookup::Found { key, distance, place, tried } => found(key, distance, place, tried),
+            Lookup::Nothing { tried } => found(0, 0, 0, tried),
         });
         self.line(LOOK_UP, [put.packed(), key, 0], answer);
     }
@@ -164,17 +170,18 @@ impl Sample {
         }
     }
 
-    fn dual_cell(&mut self, put: &Put, vertex: u64, level: u32, corners: impl Iterator<Item = usize>) -> bool {
+    fn dual_cell(&mut self, put: &Put, vertex: u64, level: u32, entries: impl Iterator<Item = usize>) -> bool {
         let answer = put.reading().dual_cell(vertex, level);
         if let Ok(cell) = answer {
             let tables = put.lent();
             let text = integer::search_eight_nodes(&tables.keys, &tables.leaves, &[(vertex, level as usize)]);
-            let keys = text[0].map(|place| tables.keys[place.expect("the text finds a node")]);
-            assert_eq!(cell.keys, keys, "the text and the model differ");
+            let places = text[0].map(|place| place.expect("the text finds a node"));
+            assert_eq!(cell.places, places.map(|place| place as u64), "the text and the model differ");
+            assert_eq!(cell.keys, places.map(|place| tables.keys[place]), "the text and the model differ");
         }
-        for corner in corners {
-            let eight = answer.map(|cell| [cell.keys[corner], cell.distances[corner] as u64, cell.tried as u64]);
-            self.line(DUAL_CELL, [put.packed(), vertex, level as u64 | (corner as u64) << 32], eight);
+        for entry in entries {
+            let of_entry = answer.map(|cell| found(cell.keys[entry], cell.distances[entry], cell.places[entry], cell.tried));
+            self.line(DUAL_CELL, [put.packed(), vertex, level as u64 | (entry as u64) << 32], of_entry);
         }
         answer.is_ok()
     }
