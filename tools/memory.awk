@@ -87,7 +87,7 @@ END {
     sum_up(building)
     table("vertices", "19s of 8 bytes, for s splits", 8, listed[4096], listed[1024])
     table("their levels", "as many of 1 byte", 1, listed[4096], listed[1024])
-    table("a dual cell", "8 keys, 8 distances, the number tried", 100, 1, 1)
+    table("a dual cell", "8 keys, 8 distances, 8 places, the number tried", 164, 1, 1)
     for (room in all)
         reading[room] = tree[room] + all[room] - building[room]
     if (part == "lent") {

@@ -6,6 +6,7 @@
 #include "mittenhelm.h"
 
 #include <float.h>
+#include <inttypes.h>
 #include <math.h>
 #include <stdio.h>
 #include <stdlib.h>
@@ -35,13 +36,13 @@ static float distances[MOST_NODES];
 static uint16_t firsts[MOST_NODES];
 static uint64_t vertices[MOST_VERTICES];
 static uint8_t levels[MOST_VERTICES];
-static size_t places[8 * MOST_VERTICES];
-static size_t node_room, leaf_room, node_count, leaf_count, vertex_room, vertex_count;
+static uint64_t places[8 * MOST_VERTICES];
+static uint64_t node_room, leaf_room, node_count, leaf_count, vertex_room, vertex_count;
 static uint32_t bound, level, which, exponent;
 static uint64_t given, other;
 static float distance;
 
-static uint64_t key_out, cell_keys[8];
+static uint64_t key_out, place_out, cell_keys[8], cell_places[8];
 static float x_out, y_out, z_out, half_out, distance_out, cell_distances[8];
 static uint32_t number_out;
 
@@ -133,8 +134,8 @@ static uint64_t answer;
 #define WAYS keys, node_count, firsts, node_count
 #define LIST 0, vertices, vertex_room, levels, vertex_room, &vertex_count
 #define CELLS vertices, vertex_room, levels, vertex_room, places, 8 * vertex_room
-#define FOUND &key_out, &distance_out, &number_out
-#define CELL cell_keys, cell_distances, &number_out
+#define FOUND &key_out, &distance_out, &place_out, &number_out
+#define CELL cell_keys, cell_distances, cell_places, &number_out
 
 CALL(level, (given))
 CALL(is_cell, (given))
@@ -268,9 +269,9 @@ static bool none(uint64_t key)
 }
 
 /* Builds a tree in a room of nodes. What doesn't fit the room is not split. */
-static void build(bool (*is_split)(uint64_t), uint32_t depth_bound, size_t room)
+static void build(bool (*is_split)(uint64_t), uint32_t depth_bound, uint64_t room)
 {
-    size_t nodes_with_queued = 73;
+    uint64_t nodes_with_queued = 73;
 
     node_room = room;
     leaf_room = (7 * room + 1) / 8;
@@ -311,7 +312,7 @@ static void measure_both(struct call *checked, struct call *trusting, uint32_t e
 /* Refused; with room for all that a tree could have, in one pass; and with room for those that there are, in two. */
 static void list(void)
 {
-    size_t count;
+    uint64_t count;
 
     vertex_room = 0;
     measure_both(&call_list, &call_list_trusting, MITTENHELM_LIST_FULL, "list without room");
@@ -343,7 +344,7 @@ static void cells(void)
 static void list_too_deep(void)
 {
     /* The first of the last eight nodes is split. */
-    const size_t parent = node_count - 8;
+    const uint64_t parent = node_count - 8;
 
     expect(keys[parent] == first_cell(LIMIT), "the first cell of level 15");
     for (unsigned child = 0; child < 8; child++) {
@@ -379,13 +380,14 @@ static void read_all(void)
     expect(answer == 1, "a finished build is sound");
     list();
     cells();
-    for (size_t i = 0; i < node_count; i++) {
+    for (uint64_t i = 0; i < node_count; i++) {
         given = keys[i];
         look_up(MITTENHELM_ACCEPTED, "look_up");
+        expect(place_out == i, "the place of a node, or 0 for the root, which no lookup finds");
         given = first_cell(DEEPEST) + any() % first_cell(DEEPEST);
         look_up(MITTENHELM_ACCEPTED, "look_up of level 21");
     }
-    for (size_t i = 0; i < vertex_count; i++) {
+    for (uint64_t i = 0; i < vertex_count; i++) {
         given = vertices[i];
         level = levels[i];
         dual_cell(MITTENHELM_ACCEPTED, "dual_cell");
@@ -397,11 +399,11 @@ static void read_all(void)
     look_up(MITTENHELM_NOT_A_CELL, "look_up of no cell");
 }
 
-static void print_most_vertices(size_t room)
+static void print_most_vertices(uint64_t room)
 {
     build(on_diagonal, LIMIT, room);
     list();
-    printf("vertices %zu %zu %zu\n", room, node_count, vertex_count);
+    printf("vertices %" PRIu64 " %" PRIu64 " %" PRIu64 "\n", room, node_count, vertex_count);
 }
 
 int main(void)
@@ -422,7 +424,7 @@ int main(void)
         if (rules[i] == to_first)
             list_too_deep();
         read_all();
-        for (size_t v = 0; v < vertex_count; v++)
+        for (uint64_t v = 0; v < vertex_count; v++)
             measure_vertex(vertices[v], levels[v]);
     }
     measure_vertex(0, 0);

@@ -2,6 +2,7 @@
 
 use crate::ours::{checked, dual_cell, look_ups, Batch, Building, Finished, Listing};
 use crate::text::Text;
+use mittenhelm::DualCell;
 
 /// The answers of one side, floats as their bits.
 #[derive(Clone, Debug, PartialEq, Eq)]
@@ -10,8 +11,12 @@ pub struct Answers {
     pub leaves: Vec<u64>,
     /// With their levels, ascending: the Rust has no order of its own.
     pub vertices: Vec<(u64, u32)>,
-    /// The keys of each vertex's dual cell, in corner order.
+    /// The keys of each vertex's dual cell.
     pub cells: Vec<[u64; 8]>,
+    /// Where in the node tables they stand.
+    pub places: Vec<[u64; 8]>,
+    /// The same by the list and all dual cells.
+    pub listed_places: Vec<[u64; 8]>,
     /// What the timed search for all dual cells sums up to.
     pub sum_of_cells: u64,
     /// The same for the list and all dual cells.
@@ -32,18 +37,21 @@ impl Answers {
         let tree = finished.tree();
         let mut listing = Listing::new();
         listing.list(tree);
+        let cells: Vec<DualCell> = listing.listed().map(|(vertex, level)| dual_cell(checked(tree), vertex, level)).collect();
         Answers {
             nodes: finished.keys.iter().copied().zip(finished.distances.iter().map(|distance| distance.to_bits())).collect(),
             leaves: finished.leaves.clone(),
             vertices: listing.listed().collect(),
-            cells: listing.listed().map(|(vertex, level)| dual_cell(checked(tree), vertex, level).keys).collect(),
+            cells: cells.iter().map(|cell| cell.keys).collect(),
+            places: cells.iter().map(|cell| cell.places).collect(),
+            listed_places: Batch::new().places(tree),
             sum_of_cells: listing.dual_cells(tree),
             sum_of_listed_cells: Batch::new().dual_cells(tree),
             sum_of_look_ups: look_ups(tree, keys),
         }
     }
 
-    /// Those of a build of the text. The dual cells' keys are searched for in the tree that it built.
+    /// Those of a build of the text. The dual cells' nodes are searched for in the tree that it built.
     pub fn of_text<T: Text>(bound: u32, distances: &[f32], keys: &[u64]) -> Self {
         let octree = T::octree(bound, distances);
         let (nodes, leaves) = T::nodes_and_leaves(&octree);
@@ -51,9 +59,12 @@ impl Answers {
         let listed = T::listed(&vertices);
         let node_keys: Vec<u64> = nodes.iter().map(|&(key, _)| key).collect();
         let sum_of_cells = T::dual_cells(&octree, vertices);
-        let key_at = |place: Option<usize>| place.map_or(0, |place| node_keys[place]);
+        let found = |places: [Option<usize>; 8]| places.map(|place| place.expect("the text finds a node") as u64);
+        let places: Vec<[u64; 8]> = T::places(&node_keys, &leaves, &listed).into_iter().map(found).collect();
         Answers {
-            cells: T::places(&node_keys, &leaves, &listed).into_iter().map(|places| places.map(key_at)).collect(),
+            cells: places.iter().map(|eight| eight.map(|place| node_keys[place as usize])).collect(),
+            listed_places: places.clone(),
+            places,
             sum_of_cells,
             sum_of_listed_cells: sum_of_cells,
             sum_of_look_ups: T::look_ups(&octree, keys),
@@ -70,6 +81,8 @@ impl Answers {
             ("leaves", self.leaves == other.leaves),
             ("vertices", self.vertices == other.vertices),
             ("dual cells", self.cells == other.cells),
+            ("places of the dual cells", self.places == other.places),
+            ("places of the list's dual cells", self.listed_places == other.listed_places),
             ("sum of the dual cells", self.sum_of_cells == other.sum_of_cells),
             ("sum of the list's dual cells", self.sum_of_listed_cells == other.sum_of_listed_cells),
             ("sum of the lookups", self.sum_of_look_ups == other.sum_of_look_ups),

@@ -134,7 +134,7 @@ pub const BATCH: usize = 512;
 pub struct Batch {
     vertices: Vec<u64>,
     levels: Vec<u8>,
-    places: Vec<usize>,
+    places: Vec<u64>,
 }
 
 impl Batch {
@@ -144,13 +144,28 @@ impl Batch {
 
     /// Checks the tree, and finds all vertices with the nodes of their dual cells; the sum of the bits of their distances.
     pub fn dual_cells(&mut self, tree: Tree) -> u64 {
-        let sound = checked(tree);
-        let (mut sum, mut from) = (0, 0);
+        let mut sum = 0;
+        let bits = |&place: &u64| tree.distances[place as usize].to_bits() as u64;
+        self.each(tree, |places| sum += places.iter().map(bits).sum::<u64>());
+        sum
+    }
+
+    /// The places of all dual cells.
+    pub fn places(&mut self, tree: Tree) -> Vec<[u64; 8]> {
+        let mut all = Vec::new();
+        let eight = |places: &[u64]| <[u64; 8]>::try_from(places).expect("eight places");
+        self.each(tree, |places| all.extend(places.chunks_exact(8).map(eight)));
+        all
+    }
+
+    /// Checks the tree, and hands on the places of each batch.
+    fn each(&mut self, tree: Tree, mut take: impl FnMut(&[u64])) {
+        let (sound, mut from) = (checked(tree), 0);
         loop {
             let count = sound.cells(from, &mut self.vertices, &mut self.levels, &mut self.places);
-            sum += self.places[..8 * count].iter().map(|&place| tree.distances[place].to_bits() as u64).sum::<u64>();
+            take(&self.places[..8 * count]);
             if count < BATCH {
-                return sum;
+                return;
             }
             from = self.vertices[BATCH - 1] + 1;
         }

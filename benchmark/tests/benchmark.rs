@@ -95,6 +95,8 @@ fn finds_every_difference() {
     assert_eq!(differs(|a| a.leaves[9] ^= 1), Some("leaves"));
     assert_eq!(differs(|a| a.vertices[9].1 += 1), Some("vertices"));
     assert_eq!(differs(|a| a.cells[9].swap(0, 1)), Some("dual cells"));
+    assert_eq!(differs(|a| a.places[9].swap(0, 1)), Some("places of the dual cells"));
+    assert_eq!(differs(|a| a.listed_places[9].swap(0, 1)), Some("places of the list's dual cells"));
     assert_eq!(differs(|a| a.sum_of_cells += 1), Some("sum of the dual cells"));
     assert_eq!(differs(|a| a.sum_of_listed_cells += 1), Some("sum of the list's dual cells"));
     assert_eq!(differs(|a| a.sum_of_look_ups += 1), Some("sum of the lookups"));
