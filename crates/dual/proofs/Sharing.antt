@@ -1,12 +1,14 @@
 -- The ways down that sides share: those of one parent need one way alone, and what it comes to tells the entries of them all. Assumes nothing.
 use Prim.Native.Nat.{ℕ, zero, suc, _+_, _-_, _*_, _/_, _%_, _^_, _≤_, _<_}
 use mathlib.Core.Path.{_≡_, refl, sym, _∙_, ap, ap₂, subst}
-use mathlib.Core.Bool.{true, false, true≢false}
-use mathlib.Core.Logic.{inl}
+use mathlib.Core.Bool.{Bool, true, false, _&&_, true≢false}
+use mathlib.Core.Logic.{inl, ⊎-elim}
 use mathlib.Core.List.{List}
 use native.Mathlib.Nat.{div-one}
 use native.Mathlib.Omega.{arith}
-use native.Mathlib.Decide.{decLt, ℕ-discrete}
+use native.Mathlib.Decide.{ℕ-discrete}
+use borrow.Author.Tests.{leb-true, eqb-true}
+use lib.Dec.{leb, eqb}
 use lib.Bits.{bitAnd, and-le-l}
 use lib.Ieee.{Float, ofBits, binary32}
 use lib.ListN.{length, getD, set, length-set}
@@ -15,55 +17,99 @@ use Rattle.morton.specs.Field.{sub}
 use Rattle.morton.specs.Level.{Cell, level, isCell}
 use Rattle.morton.specs.Vertex.{isInner, isInside}
 use Rattle.morton.proofs.Fields.{bit-le}
-use Rattle.morton.proofs.Levels.{cell-level, cell-is}
+use Rattle.morton.proofs.Levels.{and-true, cell-level, cell-is}
 use Rattle.morton.proofs.Sides.{sub-key}
 use Rattle.morton.proofs.Vertices.{is-inside, inner-level, inner-low, inner-code}
 use Rattle.tree.specs.declared.Lookup.{Lookup}
 use Rattle.tree.specs.Down.{Nodes, NodeOver, NodeSays}
 use Rattle.tree.specs.Climb.{distanceAt, trustingOf}
 use Rattle.tree.proofs.Down.{place-le}
+use Rattle.tree.proofs.Lists.{order}
 use Rattle.tree.proofs.Finding.{says-over, in-row, in-one, nothing-at, found-at}
 use Rattle.geometry.specs.Near.{near}
 use Rattle.geometry.proofs.Offsets.{Within, kept-lt, kept-none, kept-again, flip-lt, near-cell, within-up, near-step}
 use Rattle.dual.specs.Dual.{lookupAt, EntrySays, EntryFor}
 
--- ---- the ways, one after another
+-- ---- the ways, one after another, from the highest side on
 
--- of the first n sides, for each that is lower on no axis on which q is odd: the node over the first of the eight cells that it is one of, by level and place
+-- a test that holds of all numbers below n
+abbrev below : (ℕ → Bool) → ℕ → Bool
+below f zero = true
+below f (suc n) = f n && below f n
+
+below-at : (f : ℕ → Bool) (n : ℕ) → below f n ≡ true → (k : ℕ) → k < n → f k ≡ true
+below-at f zero e k h = absurd (omega arith)
+below-at f (suc n) e k h =
+    elim (ℕ-discrete k n) [
+      | yes z ↦ subst (λ (m : ℕ). f m ≡ true) (sym z) (and-true (f n) (below f n) e .0)
+      | no z ↦ below-at f n (and-true (f n) (below f n) e .1) k (omega arith)
+    ]
+
+-- i is no more than what m keeps without the bits of r, unless m + 1 or i has one of them, or i is above m
+abbrev passes-none : ℕ → ℕ → ℕ → Bool
+passes-none r m i = leb i (bitAnd m (7 - r) + 8 * (bitAnd (suc m) r + bitAnd i r + (i - m)))
+
+tested : below (λ r. below (λ m. below (passes-none r m) 8) 8) 8 ≡ true
+tested = refl
+
+passes : (r m i : ℕ) → r < 8 → m < 8 → i < 8 → passes-none r m i ≡ true
+passes r m i hr hm hi =
+    below-at (passes-none r m) 8 (below-at (λ n. below (passes-none r n) 8) 8 (below-at (λ x. below (λ n. below (passes-none x n) 8) 8) 8 tested r hr) m hm) i hi
+
+-- of the numbers below n without a bit of r, the greatest is what n - 1 keeps, n being one of them
+none-passed : (r n i : ℕ) → r < 8 → n ≤ 8 → bitAnd n r ≡ 0 → bitAnd i r ≡ 0 → i < n → i ≤ bitAnd (n - 1) (7 - r)
+none-passed r zero i hr hn e f h = absurd (omega arith)
+none-passed r (suc m) i hr hn e f h =
+    let one : suc m - 1 ≡ m = omega arith in
+    rw one (omega (arith, leb-true i (bitAnd m (7 - r) + 8 * (bitAnd (suc m) r + bitAnd i r + (i - m))) (passes r m i hr hn (omega arith)), e, f))
+
+no-eight : (r : ℕ) → r < 8 → bitAnd 8 r ≡ 0
+no-eight r h = eqb-true (bitAnd 8 r) 0 (below-at (λ x. eqb (bitAnd 8 x) 0) 8 refl r h)
+
+-- of the sides from n on, for each that is lower on no axis on which q is odd: the node over the first of the eight cells that it is one of, by level and
+-- place; n is such a side, or 8
 pub record Told (ns : Nodes) (L q n : ℕ) (levels ends : List ℕ) : Type 0 where
+  pub most : n ≤ 8
+  pub on-even : bitAnd n (q % 8) ≡ 0
   pub eight-levels : length levels ≡ 8
   pub eight-ends : length ends ≡ 8
-  pub way : (j : ℕ) → j < n → bitAnd j (q % 8) ≡ 0 → NodeSays ns L (8 * (sub q j / 8)) (getD levels j 0) (getD ends j 0)
+  pub way : (j : ℕ) → n ≤ j → j < 8 → bitAnd j (q % 8) ≡ 0 → NodeSays ns L (8 * (sub q j / 8)) (getD levels j 0) (getD ends j 0)
 
 module _ (ns : Nodes) (L q : ℕ) where
-  pub told-none : (levels ends : List ℕ) → length levels ≡ 8 → length ends ≡ 8 → Told ns L q 0 levels ends
-  told-none levels ends l p = record { eight-levels = l; eight-ends = p; way = λ j h. absurd (omega arith) }
+  pub told-none : (levels ends : List ℕ) → length levels ≡ 8 → length ends ≡ 8 → Told ns L q 8 levels ends
+  told-none levels ends l p =
+      record { most = omega arith; on-even = no-eight (q % 8) (omega arith); eight-levels = l; eight-ends = p; way = λ j h g. absurd (omega arith) }
 
-  pub told-more : (n : ℕ) (levels ends : List ℕ) (side l p : ℕ) → n < 8 → Told ns L q n levels ends → side ≡ sub q n → NodeSays ns L (8 * (side / 8)) l p
-      → Told ns L q (n + 1) (set levels n l) (set ends n p)
-  told-more n levels ends side l p h t is s =
-      record {
-        eight-levels = length-set levels n l ∙ t .eight-levels;
-        eight-ends = length-set ends n p ∙ t .eight-ends;
-        way = λ j g e. elim (decLt j n) [
-          | yes k ↦ let o : j ≡ n → ⊥ = λ z. omega arith in
-              rw (getD-set-other levels n j l 0 o, getD-set-other ends n j p 0 o) (t .way j k e)
-          | no k ↦ let z : n ≡ j = omega arith in
-              subst (λ (i : ℕ). NodeSays ns L (8 * (sub q i / 8)) (getD (set levels n l) i 0) (getD (set ends n p) i 0)) z
-              (rw (getD-set-same levels n l 0 (omega (arith, t .eight-levels)), getD-set-same ends n p 0 (omega (arith, t .eight-ends)), ← is) s)
-        ];
-      }
+  -- the side before n
+  module _ (n : ℕ) (levels ends : List ℕ) (t : Told ns L q n levels ends) where
+    abbrev before : ℕ
+    before = bitAnd (n - 1) (7 - q % 8)
 
-  pub told-skip : (n : ℕ) (levels ends : List ℕ) → (bitAnd n (q % 8) ≡ 0 → ⊥) → Told ns L q n levels ends → Told ns L q (n + 1) levels ends
-  told-skip n levels ends f t =
-      record {
-        eight-levels = t .eight-levels;
-        eight-ends = t .eight-ends;
-        way = λ j g e. elim (decLt j n) [
-          | yes k ↦ t .way j k e
-          | no k ↦ let z : j ≡ n = omega arith in absurd (f (subst (λ (i : ℕ). bitAnd i (q % 8) ≡ 0) z e))
-        ];
-      }
+    pub before-in : before < 8
+    before-in = kept-lt (n - 1) (q % 8) (omega (arith, t .most))
+
+    pub before-less : 0 < n → before < n
+    before-less h = omega (arith, and-le-l (n - 1) (7 - q % 8))
+
+    pub told-more : (side l p : ℕ) → side ≡ sub q before → NodeSays ns L (8 * (side / 8)) l p → Told ns L q before (set levels before l) (set ends before p)
+    told-more side l p is s =
+        record {
+          most = omega (arith, before-in);
+          on-even = kept-none (n - 1) (q % 8) (omega (arith, t .most)) (omega arith);
+          eight-levels = length-set levels before l ∙ t .eight-levels;
+          eight-ends = length-set ends before p ∙ t .eight-ends;
+          way = λ j f g e. elim (ℕ-discrete before j) [
+            | yes z ↦ subst (λ (i : ℕ). NodeSays ns L (8 * (sub q i / 8)) (getD (set levels before l) i 0) (getD (set ends before p) i 0)) z
+                (rw (getD-set-same levels before l 0 (omega (arith, before-in, t .eight-levels)), getD-set-same ends before p 0 (omega (arith, before-in, t .eight-ends)), ← is) s)
+            | no z ↦ let o : j ≡ before → ⊥ = λ y. z (sym y) in
+                rw (getD-set-other levels before j l 0 o, getD-set-other ends before j p 0 o)
+                (t .way j (passed j f e z) g e)
+          ];
+        }
+      where
+        passed : (j : ℕ) → before ≤ j → bitAnd j (q % 8) ≡ 0 → (before ≡ j → ⊥) → n ≤ j
+        passed j f e z =
+            ⊎-elim (λ b. absurd (z (omega (arith, none-passed (q % 8) n j (omega arith) (t .most) (t .on-even) e b)))) (λ b. b) (order j n)
 
 -- ---- an entry, from the node over the first of its eight cells
 
@@ -160,14 +206,14 @@ module _ (L q : ℕ) (h1 : 1 ≤ L) (h : L ≤ 20) (e : isInside L q ≡ true) w
       subst (λ (m : ℕ). sub m (bitAnd i (7 - q % 8)) / 8 ≡ sub m i / 8) digits (child-shares (L - 1) (q / 8) (q % 8) (omega arith) (omega arith) inside i g)
 
   -- so the way that is kept serves side i
-  module _ (ns : Nodes) (n : ℕ) (levels ends : List ℕ) (all : 8 ≤ n) (w : Told ns L q n levels ends) (i : ℕ) (g : i < 8) (side : ℕ) (is : side ≡ sub q i) where
+  module _ (ns : Nodes) (n : ℕ) (levels ends : List ℕ) (all : n ≤ 0) (w : Told ns L q n levels ends) (i : ℕ) (g : i < 8) (side : ℕ) (is : side ≡ sub q i) where
     abbrev kept : ℕ
     kept = bitAnd i (7 - q % 8)
 
     way-over : NodeOver ns L (8 * (side / 8)) (getD levels kept 0) (getD ends kept 0)
     way-over =
         subst (λ (m : ℕ). NodeOver ns L (8 * m) (getD levels kept 0) (getD ends kept 0)) (shares i g ∙ ap (λ (x : ℕ). x / 8) (sym is))
-        (says-over ns L _ _ _ (omega arith) (w .way kept (omega (arith, kept-lt i (q % 8) g)) (kept-none i (q % 8) g (omega arith))))
+        (says-over ns L _ _ _ (omega arith) (w .way kept (omega arith) (kept-lt i (q % 8) g) (kept-none i (q % 8) g (omega arith))))
 
     pub way-ready : length (ns .keys) ≤ 2 ^ 62 → (1 ≤ L) × (L ≤ 20) × (getD levels kept 0 ≤ L) × (getD ends kept 0 ≤ 2 ^ 62) × Cell L side
     way-ready few =

@@ -80,27 +80,24 @@ fn entry_for(distances: &[f32], side: u64, level: u32, at: u32, first: usize) ->
 }
 
 // The entries on the eight sides of a vertex that is `middle` at its level, each written anew. Sides that are children of one parent share a way down: it leads
-// to the node over the parent's first child, and is kept at the one side of them that is lower on no axis on which the vertex is odd. Both loops stand here,
-// since an array that is handed on is copied.
+// to the node over the parent's first child, and is kept at the one side of them that is lower on no axis on which the vertex is odd. The first loop goes from
+// one such side to the next below. Both loops stand here, since an array that is handed on is copied.
 fn around(keys: &[u64], distances: &[f32], firsts: &[u16], middle: u64, level: u32) -> Dual
     requires { ⌜ (1 ≤ level) × (level ≤ 20) × (isInside level middle ≡ true) ⌝ }
     ensures { λ r. ⌜ AroundSays (nodesOf (now (keys .entry)) (now (firsts .entry))) (now (distances .entry)) middle (r .keys) (r .distances) (r .places) (r .tried) ⌝ }
 {
     let odd = (middle % 8) as usize;
+    let even = 7 - odd;
     let mut levels = [0u32; 8];
     let mut ends = [0usize; 8];
-    let mut j: usize = 0;
-    while j < 8 {
-        if j & odd == 0 {
-            let node = tree::go_down(keys, firsts, level, 8 * (side(middle, j) / 8));
-            levels[j] = node.level;
-            ends[j] = node.place;
-            j += 1;
-        } else {
-            j += 1;
-        }
+    let mut above: usize = 8;
+    while above > 0 {
+        let j = (above - 1) & even;
+        let node = tree::go_down(keys, firsts, level, 8 * (side(middle, j) / 8));
+        levels[j] = node.level;
+        ends[j] = node.place;
+        above = j;
     }
-    let even = 7 - odd;
     let mut found = [0u64; 8];
     let mut theirs = [0.0f32; 8];
     let mut places = [0usize; 8];

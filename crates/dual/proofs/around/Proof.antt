@@ -7,26 +7,32 @@ use lib.Dec.{lit<}
 use borrow.Author.Needs.{needs, scaled-fits}
 use Rattle.morton.specs.Level.{deepest}
 use Rattle.tree.specs.Down.{nodesOf}
-use Rattle.dual.proofs.Sharing.{Told, told-none, told-more, told-skip, among, way-ready, way-entry}
+use Rattle.dual.proofs.Sharing.{Told, told-none, told-more, before-in, before-less, among, way-ready, way-entry}
 use Rattle.dual.proofs.Filling.{Filled, filled-none, filled-more, filled-all}
 use Rattle.dual.proofs.around.Statement.{statement}
 use Rattle.dual.proofs.around.Tie as tie
 
 abbrev Inv-loop : tie.InvT-loop
-Inv-loop keys distances firsts middle level odd levels₀ ends₀ j₀ levels ends j = (j ≤ 8) × Told (nodesOf keys firsts) level middle j levels ends
+Inv-loop keys distances firsts middle level odd even levels₀ ends₀ above₀ levels ends above = Told (nodesOf keys firsts) level middle above levels ends
 
 abbrev μ-loop : tie.MeasureT-loop
-μ-loop keys distances firsts middle level odd levels₀ ends₀ j₀ levels ends j = 8 - j
+μ-loop keys distances firsts middle level odd even levels₀ ends₀ above₀ levels ends above = above
 
 abbrev Inv-loop2 : tie.InvT-loop2
-Inv-loop2 keys distances firsts middle level odd levels ends j even found₀ theirs₀ places₀ tried₀ i₀ found theirs places tried i =
+Inv-loop2 keys distances firsts middle level odd even levels ends above found₀ theirs₀ places₀ tried₀ i₀ found theirs places tried i =
     (i ≤ 8) × (tried ≤ deepest * i) × Filled (nodesOf keys firsts) distances middle i found theirs places tried
 
 abbrev μ-loop2 : tie.MeasureT-loop2
-μ-loop2 keys distances firsts middle level odd levels ends j even found₀ theirs₀ places₀ tried₀ i₀ found theirs places tried i = 8 - i
+μ-loop2 keys distances firsts middle level odd even levels ends above found₀ theirs₀ places₀ tried₀ i₀ found theirs places tried i = 8 - i
+
+sub-even : tie.Need-sub-even Inv-loop μ-loop Inv-loop2 μ-loop2
+sub-even c = search needs
 
 loop-holds : tie.Need-loop-holds Inv-loop μ-loop Inv-loop2 μ-loop2
-loop-holds c = (omega arith, told-none _ _ _ _ _ refl refl)
+loop-holds c = told-none _ _ _ _ _ refl refl
+
+sub-j : tie.Need-sub-j Inv-loop μ-loop Inv-loop2 μ-loop2
+sub-j c = search needs
 
 side-requires : tie.Need-side-requires Inv-loop μ-loop Inv-loop2 μ-loop2
 side-requires c κs = search needs
@@ -38,37 +44,22 @@ go-down-requires : tie.Need-go-down-requires Inv-loop μ-loop Inv-loop2 μ-loop2
 go-down-requires c κs = search needs
 
 mul-levels : tie.Need-mul-levels Inv-loop μ-loop Inv-loop2 μ-loop2
-mul-levels c = search needs
+mul-levels c = scaled-fits _ 8 _ (before-in _ _ _ _ _ _ (c .before .before .before .loop .inv)) (lit< tt)
 
 array-write-levels : tie.Need-array-write-levels Inv-loop μ-loop Inv-loop2 μ-loop2
-array-write-levels c = search needs
+array-write-levels c = before-in _ _ _ _ _ _ (c .before .before .before .loop .inv)
 
 mul-ends : tie.Need-mul-ends Inv-loop μ-loop Inv-loop2 μ-loop2
-mul-ends c = search needs
+mul-ends c = scaled-fits _ 8 _ (before-in _ _ _ _ _ _ (c .before .before .before .loop .inv)) (lit< tt)
 
 array-write-ends : tie.Need-array-write-ends Inv-loop μ-loop Inv-loop2 μ-loop2
-array-write-ends c = search needs
-
-add-j : tie.Need-add-j Inv-loop μ-loop Inv-loop2 μ-loop2
-add-j c = search needs
+array-write-ends c = before-in _ _ _ _ _ _ (c .before .before .before .loop .inv)
 
 loop-less : tie.Need-loop-less Inv-loop μ-loop Inv-loop2 μ-loop2
-loop-less c = search needs
+loop-less c = before-less _ _ _ _ _ _ (c .before .before .before .loop .inv) (omega arith)
 
 loop-again : tie.Need-loop-again Inv-loop μ-loop Inv-loop2 μ-loop2
-loop-again c = (omega arith, told-more _ _ _ (c .before .before .before .before .loop .j) _ _ _ _ _ (omega arith) (c .before .before .before .before .loop .inv .1) (c .before .side .ensures) (c .go-down .ensures))
-
-add-j-2 : tie.Need-add-j-2 Inv-loop μ-loop Inv-loop2 μ-loop2
-add-j-2 c = search needs
-
-loop-less-2 : tie.Need-loop-less-2 Inv-loop μ-loop Inv-loop2 μ-loop2
-loop-less-2 c = search needs
-
-loop-again-2 : tie.Need-loop-again-2 Inv-loop μ-loop Inv-loop2 μ-loop2
-loop-again-2 c = (omega arith, told-skip _ _ _ (c .before .before .loop .j) _ _ (c .if1 .left) (c .before .before .loop .inv .1))
-
-sub-even : tie.Need-sub-even Inv-loop μ-loop Inv-loop2 μ-loop2
-sub-even c = search needs
+loop-again c = told-more _ _ _ _ _ _ (c .before .before .before .loop .inv) _ _ _ (c .before .side .ensures) (c .go-down .ensures)
 
 loop2-holds : tie.Need-loop2-holds Inv-loop μ-loop Inv-loop2 μ-loop2
 loop2-holds c = (omega arith, omega arith, filled-none _ _ _ _ _ _ refl refl refl)
@@ -89,7 +80,7 @@ array-read-entry-for-2 : tie.Need-array-read-entry-for-2 Inv-loop μ-loop Inv-lo
 array-read-entry-for-2 c = among _ _ (c .before .loop2-test .taken)
 
 entry-for-requires : tie.Need-entry-for-requires Inv-loop μ-loop Inv-loop2 μ-loop2
-entry-for-requires c κs = let p = c .before .before .before .before .before .before .before .before .pre in way-ready _ _ (p .0) (p .1) (p .2) _ _ _ _ (c .before .before .before .loop-test .left) (c .before .before .before .before .loop .inv .1) (c .before .before .loop2 .i) (omega arith) _ (c .side2 .ensures) (omega arith)
+entry-for-requires c κs = let p = c .before .before .before .before .before .before .before .before .pre in way-ready _ _ (p .0) (p .1) (p .2) _ _ _ _ (c .before .before .before .loop-test .left) (c .before .before .before .before .loop .inv) (c .before .before .loop2 .i) (omega arith) _ (c .side2 .ensures) (omega arith)
 
 mul-found : tie.Need-mul-found Inv-loop μ-loop Inv-loop2 μ-loop2
 mul-found c = search needs
@@ -119,7 +110,7 @@ loop2-less : tie.Need-loop2-less Inv-loop μ-loop Inv-loop2 μ-loop2
 loop2-less c = search needs
 
 loop2-again : tie.Need-loop2-again Inv-loop μ-loop Inv-loop2 μ-loop2
-loop2-again c = let p = c .before .before .before .before .before .before .before .before .before .before .pre in (omega arith, omega (arith, c .before .entry-for .ensures .1), filled-more _ _ _ (c .before .before .before .before .loop2 .i) _ _ _ _ _ _ _ _ (omega arith) (c .before .before .before .before .loop2 .inv .2) (way-entry _ _ (p .0) (p .1) (p .2) _ _ _ _ (c .before .before .before .before .before .loop-test .left) (c .before .before .before .before .before .before .loop .inv .1) (c .before .before .before .before .loop2 .i) (omega arith) _ (c .before .before .side2 .ensures) _ _ _ _ _ (c .before .entry-for .ensures .0)))
+loop2-again c = let p = c .before .before .before .before .before .before .before .before .before .before .pre in (omega arith, omega (arith, c .before .entry-for .ensures .1), filled-more _ _ _ (c .before .before .before .before .loop2 .i) _ _ _ _ _ _ _ _ (omega arith) (c .before .before .before .before .loop2 .inv .2) (way-entry _ _ (p .0) (p .1) (p .2) _ _ _ _ (c .before .before .before .before .before .loop-test .left) (c .before .before .before .before .before .before .loop .inv) (c .before .before .before .before .loop2 .i) (omega arith) _ (c .before .before .side2 .ensures) _ _ _ _ _ (c .before .entry-for .ensures .0)))
 
 returns : tie.Need-returns Inv-loop μ-loop Inv-loop2 μ-loop2
 returns c = filled-all _ _ _ (c .before .loop2 .i) _ _ _ _ (omega arith) (omega arith) (c .before .loop2 .inv .2)
@@ -132,7 +123,9 @@ around-spec =
     μ-loop
     Inv-loop2
     μ-loop2
+    sub-even
     loop-holds
+    sub-j
     side-requires
     mul-go-down
     go-down-requires
@@ -140,13 +133,8 @@ around-spec =
     array-write-levels
     mul-ends
     array-write-ends
-    add-j
     loop-less
     loop-again
-    add-j-2
-    loop-less-2
-    loop-again-2
-    sub-even
     loop2-holds
     side-requires-2
     mul-entry-for
