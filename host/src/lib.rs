@@ -572,11 +572,13 @@ pub struct SoundTree<'a> {
 
 impl<'a> SoundTree<'a> {
     /// The tables.
+    #[inline]
     pub fn tree(&self) -> Tree<'a> {
         self.tree
     }
 
     /// As `Tree::look_up`, without a check of the tree.
+    #[inline]
     pub fn look_up(&self, key: u64) -> Result<Lookup, Refusal> {
         looked_up(|found, distance, place, tried| {
             with_nodes!(mittenhelm_look_up_trusting, self.tree, key, found, distance, place, tried)
@@ -584,6 +586,7 @@ impl<'a> SoundTree<'a> {
     }
 
     /// As `Tree::list`, without a check of the tree.
+    #[inline]
     pub fn list(&self, start: usize, vertices: &mut [u64], levels: &mut [u8]) -> Result<usize, Refusal> {
         listed(vertices, levels, |vertices, v, levels, l, count| {
             with_tables!(mittenhelm_list_trusting, self.tree, [keys, firsts], start as u64, vertices, v, levels, l, count)
@@ -593,6 +596,7 @@ impl<'a> SoundTree<'a> {
     /// Writes the vertices that are no less than `from`, ascending and each with its level, as many as have room in all three
     /// tables, and answers how many. `places` takes eight for each: those of its `DualCell`, in the same order. Who wants all and has
     /// room for one at least begins with 0, goes on with the last vertex + 1, and is done when fewer came than have room.
+    #[inline]
     pub fn cells(&self, from: u64, vertices: &mut [u64], levels: &mut [u8], places: &mut [u64]) -> usize {
         let (v, l, p) = (vertices.len() as u64, levels.len() as u64, places.len() as u64);
         let (vertices, levels, places) = (vertices.as_mut_ptr(), levels.as_mut_ptr(), places.as_mut_ptr());
@@ -602,6 +606,7 @@ impl<'a> SoundTree<'a> {
     }
 
     /// As `Tree::dual_cell`, without a check of the tree.
+    #[inline]
     pub fn dual_cell(&self, vertex: u64, level: u32) -> Result<DualCell, Refusal> {
         around(|keys, distances, places, tried| {
             with_nodes!(mittenhelm_dual_cell_trusting, self.tree, vertex, level, keys, distances, places, tried)
