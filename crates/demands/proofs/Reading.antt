@@ -3,7 +3,7 @@ use Prim.Native.Nat.{ℕ, zero, suc, _+_, _-_, _/_, _^_, _≤_, _<_}
 use mathlib.Core.Path.{_≡_, refl, sym, _∙_, ap, ap₂, subst, subst₂}
 use mathlib.Core.Bool.{true, true≢false}
 use mathlib.Core.Logic.{⊎-elim}
-use mathlib.Core.List.{List, [], _∷_, _++_}
+use mathlib.Core.List.{List, _++_}
 use native.Mathlib.Omega.{arith}
 use lib.Ieee.{Float, nan}
 use lib.ListN.{length, getD, take, drop}
@@ -12,9 +12,8 @@ use Rattle.morton.specs.Level.{deepest, level, Cell}
 use Rattle.morton.specs.Vertex.{isInner, sideOf}
 use Rattle.morton.proofs.Levels.{cell-level}
 use Rattle.tree.specs.Tree.{Tree, In, Sound}
-use Rattle.tree.specs.Down.{Nodes}
-use Rattle.tree.specs.Climb.{ancestor, Deepest, triedIn}
-use Rattle.geometry.specs.Grid.{sum, liesIn, Covers}
+use Rattle.tree.specs.Climb.{ancestor, Deepest}
+use Rattle.geometry.specs.Grid.{liesIn, Covers}
 use Rattle.geometry.specs.Corner.{StrictlyInside}
 use Rattle.geometry.specs.Listing.{Listed}
 use Rattle.tree.proofs.Lists.{in-cast, ascending-place}

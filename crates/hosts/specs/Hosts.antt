@@ -79,7 +79,7 @@ HostsQueueOf64 =
     → length given ≡ 73 → AllFinite given
     → (words : List ℕ) × (t : Tables) × HostRun host bound lent given words t × (word words 3 ≡ 0)
 
--- What is handed over as eight keys, eight distances and the number tried.
+-- What is handed over as eight keys, eight distances, eight places and the number tried.
 abbrev pub dualIn : Eight → Dual
 dualIn out = record { keys = out .keys; distances = out .distances; places = out .places; tried = Keys (out .tried) }
 

@@ -12,8 +12,8 @@ use lib.Ieee.{Float}
 use Rattle.morton.specs.Level.{Cell}
 use Rattle.morton.proofs.Levels.{eight-pos}
 use Rattle.morton.proofs.Fields.{div-step}
-use Rattle.tree.specs.Tree.{In, StandsAt, NoChild, Sound, treeOf, Decides}
-use Rattle.tree.specs.Down.{Nodes, isSplit, over, placeOver}
+use Rattle.tree.specs.Tree.{In, NoChild, Sound, treeOf, Decides}
+use Rattle.tree.specs.Down.{Nodes, isSplit, over}
 use Rattle.tree.proofs.Down.{reached}
 use Rattle.tree.proofs.Finding as finding
 use Rattle.tree.proofs.Lists.{in-cast, stands-in}
