@@ -16,7 +16,7 @@ use Rattle.tree.specs.Down.{Nodes}
 use Rattle.tree.proofs.Finding.{nodes}
 use Rattle.tree.proofs.Lists.{Asc, asc-weaken, asc-at}
 use Rattle.vertices.specs.Walk.{Spot, inTurn, lowCorner, divided, meets, ending, walked, spotsOf, verticesOf, levelsOf}
-use Rattle.vertices.specs.Cells.{since, wanted, placesOf, Cells, cellsOf, roomOf, CellsSays}
+use Rattle.vertices.specs.Cells.{since, wanted, placesOf, placesAt, Cells, cellsOf, roomOf, CellsSays}
 use Rattle.vertices.specs.Listing.{written}
 use Rattle.vertices.proofs.Blocks.{walked-end, walked-on, walked-stop, ending-one, ending-none, vertices-append, levels-append, vertices-length, levels-length}
 use Rattle.vertices.proofs.Spot.{corner-next}
@@ -26,7 +26,7 @@ use Rattle.vertices.proofs.Rounds.{cells-right}
 use Rattle.dual.specs.declared.Tried.the-variants.{Keys}
 use Rattle.dual.specs.Dual.{DualCell}
 use Rattle.dual.proofs.Filling.{answer-at, dual-inside, trusting-dual}
-use Rattle.demands.specs.Batches.{placesAt, CellAt, OfEachCall, withBatch, Batches, Done, OfFullBatches, OfAllBatches, AllCells, OfSoundTreesInBatches}
+use Rattle.demands.specs.Batches.{CellAt, OfEachCall, withBatch, Batches, Done, OfFullBatches, OfAllBatches, AllCells, OfSoundTreesInBatches}
 use Rattle.demands.specs.Batches.Batches.{begun, full}
 use Rattle.demands.specs.Batches.Done.{done}
 
@@ -262,7 +262,7 @@ batches-kept {ks} (full {calls} {from} {got} was left n b room says all) =
 -- ---- the places that go with a vertex
 
 -- place i of the table is one of the eight of vertex i / 8
-place-of : (i : ℕ) (got : Cells) → getD (placesAt (i / 8) got) (i % 8) 0 ≡ getD (got .places) i 0
+place-of : (i : ℕ) (got : Cells) → getD (placesAt (i / 8) (got .places)) (i % 8) 0 ≡ getD (got .places) i 0
 place-of i got =
     let e : 8 * (i / 8) + i % 8 ≡ i = omega arith in
     getD-take 8 (drop (8 * (i / 8)) (got .places)) (i % 8) 0 (omega arith)
@@ -272,7 +272,7 @@ place-of i got =
 pub of-each-call : OfEachCall
 of-each-call ks from was left n says j h ds =
     let p = cells-right ks from was left n says j h in
-    answer-at _ _ (p .word) (p .inner) ks ds (placesAt j left) (λ z. omega (arith, p .more)) (p .eight) (p .at)
+    answer-at _ _ (p .word) (p .inner) ks ds (placesAt j (left .places)) (λ z. omega (arith, p .more)) (p .eight) (p .at)
 
 -- so each lies inside, or is 0
 pub places-inside : (ks : Nodes) (from : ℕ) (was left : Cells) (n : ℕ) → CellsSays ks from was left n → (i : ℕ) → i < 8 * n
@@ -280,7 +280,7 @@ pub places-inside : (ks : Nodes) (from : ℕ) (was left : Cells) (n : ℕ) → C
 places-inside ks from was left n says i h =
     let (keys, distances, tried, answer) = of-each-call ks from was left n says (i / 8) (omega arith) [] in
     subst (λ (p : ℕ). (p ≡ 0) ⊎ (p < length (ks .keys))) (place-of i left)
-    (⊎-elim (λ z. inl (z .1)) (λ z. inr (z .1)) (dual-inside ks [] _ _ keys distances (placesAt (i / 8) left) (Keys tried) answer (i % 8) (omega arith)))
+    (⊎-elim (λ z. inl (z .1)) (λ z. inr (z .1)) (dual-inside ks [] _ _ keys distances (placesAt (i / 8) (left .places)) (Keys tried) answer (i % 8) (omega arith)))
 
 -- one call with room for just all of them
 one-call : (ks : Nodes) → CellsSays ks 0 (cellsAt ks (spotsOf ks)) (cellsAt ks (spotsOf ks)) (length (spotsOf ks))
@@ -355,12 +355,12 @@ module _ (t : Tree) (S : Sound t) where
   eight-each = omega (arith, places-length (nodes t) (spotsOf (nodes t)), vertices-length (spotsOf (nodes t)))
 
   cell : (j : ℕ) → j < length (got .vertices)
-      → (keys : List ℕ) × (distances : List Float) × (tried : ℕ) × DualCell t (getD (got .levels) j 0) (getD (got .vertices) j 0) keys distances (placesAt j got) tried
+      → (keys : List ℕ) × (distances : List Float) × (tried : ℕ) × DualCell t (getD (got .levels) j 0) (getD (got .vertices) j 0) keys distances (placesAt j (got .places)) tried
   unfolding got
   cell j h =
       let (keys, distances, tried, says) = each-cell (nodes t) j h (t .distances) in
       let word = cells-right (nodes t) 0 got got (length (spotsOf (nodes t))) (one-call (nodes t)) j (omega (arith, vertices-length (spotsOf (nodes t)))) .word in
-      (keys, distances, tried, trusting-dual t S _ _ word keys distances (placesAt j got) (Keys tried) says .3)
+      (keys, distances, tried, trusting-dual t S _ _ word keys distances (placesAt j (got .places)) (Keys tried) says .3)
 
   inside : (i : ℕ) → i < length (got .places) → getD (got .places) i 0 < length (t .keys)
   inside i h =

@@ -3,27 +3,23 @@ use Prim.Native.Nat.{ℕ, _+_, _*_, _-_, _^_, _≤_, _<_}
 use mathlib.Core.Path.{_≡_}
 use mathlib.Core.List.{List, [], _++_}
 use lib.Ieee.{Float}
-use lib.ListN.{length, getD, take, drop}
+use lib.ListN.{length, getD, take}
 use Rattle.tree.specs.Tree.{Tree, Ascending, Sound}
 use Rattle.tree.specs.Down.{Nodes, nodesOf}
 use Rattle.geometry.specs.Listing.{Listed}
 use Rattle.vertices.specs.Walk.{spotsOf, verticesOf, levelsOf}
-use Rattle.vertices.specs.Cells.{since, placesOf, Cells, cellsOf, roomOf, CellsSays}
+use Rattle.vertices.specs.Cells.{since, placesOf, placesAt, Cells, cellsOf, roomOf, CellsSays}
 use Rattle.dual.specs.declared.Tried.the-variants.{Keys}
 use Rattle.dual.specs.Dual.{DualCell, TrustingSays}
 
 -- ---- the places that go with a vertex
 
--- The eight places that go with vertex j.
-abbrev pub placesAt : ℕ → Cells → List ℕ
-placesAt j got = take 8 (drop (8 * j) (got .places))
-
--- They are those of its dual cell: `dual_cell_trusting` accepts the vertex at its level, whatever the distances, and hands back these places.
+-- The eight that go with vertex j are those of its dual cell: `dual_cell_trusting` accepts the vertex at its level, whatever the distances, and hands back these places.
 abbrev pub CellAt : Nodes → Cells → ℕ → Type 0
 CellAt ks got j =
     (ds : List Float)
     → (keys : List ℕ) × (distances : List Float) × (tried : ℕ)
-    × TrustingSays ks ds (getD (got .levels) j 0) (getD (got .vertices) j 0) keys distances (placesAt j got) (Keys tried)
+    × TrustingSays ks ds (getD (got .levels) j 0) (getD (got .vertices) j 0) keys distances (placesAt j (got .places)) (Keys tried)
 
 -- Of each vertex that a call hands out, on any tables at all.
 abbrev pub OfEachCall : Type 0
@@ -87,7 +83,7 @@ pub record AllCells (t : Tree) (got : Cells) : Type 0 where
   -- They are those of its dual cell.
   pub cell : (j : ℕ) → j < length (got .vertices)
       → (keys : List ℕ) × (distances : List Float) × (tried : ℕ)
-      × DualCell t (getD (got .levels) j 0) (getD (got .vertices) j 0) keys distances (placesAt j got) tried
+      × DualCell t (getD (got .levels) j 0) (getD (got .vertices) j 0) keys distances (placesAt j (got .places)) tried
 
 abbrev pub OfSoundTreesInBatches : Type 0
 OfSoundTreesInBatches = (t : Tree) → Sound t → (calls : ℕ) (got : Cells) → Done (nodesOf (t .keys) (t .firsts)) calls got → AllCells t got

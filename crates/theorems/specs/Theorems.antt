@@ -6,7 +6,7 @@ use mathlib.Core.Logic.{_⊎_}
 use mathlib.Core.List.{List, _∷_, _++_, reverse}
 use lib.Ieee.{Float, nan}
 use lib.Ieee.Scale.{finite}
-use lib.ListN.{length, getD, take, drop}
+use lib.ListN.{length, getD, take}
 use Rattle.morton.specs.Exact.{Exactly}
 use Rattle.morton.specs.Field.{coord}
 use Rattle.morton.specs.Level.{deepest, limit, level, Cell}
@@ -32,7 +32,7 @@ use Rattle.vertices.specs.declared.ListAnswer.{ListAnswer}
 use Rattle.vertices.specs.declared.ListAnswer.the-variants as list
 use Rattle.vertices.specs.Listing.{Lists, Room, ListSays, TrustingSays as ListTrustingSays}
 use Rattle.vertices.specs.Walk.{visited, spotsOf, mostOf, verticesOf, levelsOf}
-use Rattle.vertices.specs.Cells.{placesOf, Cells, cellsOf, CellsSays}
+use Rattle.vertices.specs.Cells.{placesOf, placesAt, Cells, cellsOf, CellsSays}
 use Rattle.vertices.proofs.Linear as linear
 use Rattle.vertices.proofs.One as vertices
 use Rattle.dual.specs.declared.Dual.{Dual}
@@ -340,7 +340,7 @@ trusting-is-dual-cell = dual.trusting-is-dual-cell
 -- The places that are handed out with a vertex are those of its dual cell: on any tables `dual_cell_trusting` accepts it, and hands back the same eight.
 pub cells-right : (ks : Nodes) (from : ℕ) (was left : Cells) (n : ℕ) → CellsSays ks from was left n → (j : ℕ) → j < n → (ds : List Float)
     → (keys : List ℕ) × (distances : List Float) × (m : ℕ)
-    × DualTrustingSays ks ds (getD (left .levels) j 0) (getD (left .vertices) j 0) keys distances (take 8 (drop (8 * j) (left .places))) (tried.Keys m)
+    × DualTrustingSays ks ds (getD (left .levels) j 0) (getD (left .vertices) j 0) keys distances (placesAt j (left .places)) (tried.Keys m)
 cells-right = batches.of-each-call
 
 -- ---- first children

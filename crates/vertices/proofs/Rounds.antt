@@ -21,7 +21,7 @@ use Rattle.tree.proofs.Down.{over-place}
 use Rattle.geometry.specs.Near.{near}
 use Rattle.geometry.proofs.Offsets.{Within, near-cell, cube-in}
 use Rattle.vertices.specs.Walk.{placeAt, Spot, lowCorner, spotsOf, verticesOf, levelsOf}
-use Rattle.vertices.specs.Cells.{since, wanted, roundOf, placesOf, Cells, roomOf, CellsSays}
+use Rattle.vertices.specs.Cells.{since, wanted, roundOf, placesOf, placesAt, Cells, roomOf, CellsSays}
 use Rattle.vertices.specs.Listing.{written}
 use Rattle.vertices.proofs.Entries.{node-within, entry-in, place-in}
 use Rattle.vertices.proofs.Blocks.{Each, each-turn, walk-ind, ending-by, vertices-length, levels-length}
@@ -59,10 +59,6 @@ pub record Placed (n : Nodes) (L v : ℕ) (places : List ℕ) : Type 0 where
   pub more : 1 < length (n .keys)
   pub eight : length places ≡ 8
   pub at : (i : ℕ) → i < 8 → getD places i 0 ≡ placeOver n L (sideOf L v i)
-
--- the eight places of vertex j
-abbrev pub eightAt : ℕ → List ℕ → List ℕ
-eightAt j places = take 8 (drop (8 * j) places)
 
 bit-seven : (a : ℕ) → a < 3 → bit a 7 ≡ 1
 bit-seven = axes (λ a. bit a 7 ≡ 1) refl refl refl
@@ -123,18 +119,18 @@ module _ (n : Nodes) where
 
   -- ---- in the tables
 
-  eight-first : (s : Spot) (ps : List ℕ) → eightAt 0 (roundOf n s ++ ps) ≡ roundOf n s
+  eight-first : (s : Spot) (ps : List ℕ) → placesAt 0 (roundOf n s ++ ps) ≡ roundOf n s
   unfolding roundOf
   eight-first s ps = refl
 
-  eight-later : (s : Spot) (ps : List ℕ) (j : ℕ) → eightAt (suc j) (roundOf n s ++ ps) ≡ eightAt j ps
+  eight-later : (s : Spot) (ps : List ℕ) (j : ℕ) → placesAt (suc j) (roundOf n s ++ ps) ≡ placesAt j ps
   unfolding roundOf
   eight-later s ps j =
       let e : 8 * suc j ≡ 8 + 8 * j = omega arith in
       ap (λ (k : ℕ). take 8 (drop k (roundOf n s ++ ps))) e ∙ ap (take 8) (drop-append-add (roundOf n s) ps (8 * j))
 
   -- vertex j of some, with the eight places that go with it
-  of-spots : (ss : List Spot) → Each Round ss → (j : ℕ) → j < length ss → Placed n (getD (levelsOf ss) j 0) (getD (verticesOf ss) j 0) (eightAt j (placesOf n ss))
+  of-spots : (ss : List Spot) → Each Round ss → (j : ℕ) → j < length ss → Placed n (getD (levelsOf ss) j 0) (getD (verticesOf ss) j 0) (placesAt j (placesOf n ss))
   unfolding levelsOf verticesOf placesOf
   of-spots [] a j h = absurd (omega arith)
   of-spots (s ∷ ss) a zero h = subst (Placed n (s .level) (s .vertex)) (sym (eight-first s (placesOf n ss))) (a .0)
@@ -143,10 +139,10 @@ module _ (n : Nodes) where
 
   -- of one call
   pub cells-right : (from : ℕ) (was left : Cells) (k : ℕ) → CellsSays n from was left k → (j : ℕ) → j < k
-      → Placed n (getD (left .levels) j 0) (getD (left .vertices) j 0) (eightAt j (left .places))
+      → Placed n (getD (left .levels) j 0) (getD (left .vertices) j 0) (placesAt j (left .places))
   cells-right from was left k says j h =
-      subst (λ (L : ℕ). Placed n L (getD (left .vertices) j 0) (eightAt j (left .places))) (sym (at-first levelsOf (was .levels) (says .levels-are) (levels-length some)))
-      (subst (λ (v : ℕ). Placed n (getD (levelsOf some) j 0) v (eightAt j (left .places))) (sym (at-first verticesOf (was .vertices) (says .vertices-are) (vertices-length some)))
+      subst (λ (L : ℕ). Placed n L (getD (left .vertices) j 0) (placesAt j (left .places))) (sym (at-first levelsOf (was .levels) (says .levels-are) (levels-length some)))
+      (subst (λ (v : ℕ). Placed n (getD (levelsOf some) j 0) v (placesAt j (left .places))) (sym (at-first verticesOf (was .vertices) (says .vertices-are) (vertices-length some)))
       (subst (Placed n (getD (levelsOf some) j 0) (getD (verticesOf some) j 0)) (sym places-first)
       (of-spots some (each-wanted Round from (roomOf was) (spotsOf n) rounds) j short)))
     where
@@ -160,9 +156,9 @@ module _ (n : Nodes) where
       at-first : (of : List Spot → List ℕ) (before : List ℕ) {after : List ℕ} → after ≡ written before 0 (of some) → length (of some) ≡ length some → getD after j 0 ≡ getD (of some) j 0
       at-first of before e l = ap (λ (xs : List ℕ). getD xs j 0) e ∙ List·getD-append (of some) (drop (0 + length (of some)) before) 0 j (omega (arith, short))
 
-      places-first : eightAt j (left .places) ≡ eightAt j (placesOf n some)
+      places-first : placesAt j (left .places) ≡ placesAt j (placesOf n some)
       places-first =
           let rest : List ℕ = drop (0 + length (placesOf n some)) (was .places) in
-          ap (eightAt j) (says .places-are)
+          ap (placesAt j) (says .places-are)
           ∙ ap (take 8) (drop-append-le (8 * j) (placesOf n some) rest (omega (arith, places-length n some, short)))
           ∙ take-append-le 8 (drop (8 * j) (placesOf n some)) rest (omega (arith, length-drop (8 * j) (placesOf n some), places-length n some, short))

@@ -1,10 +1,10 @@
 -- What the call answers and leaves that hands out vertices with the nodes of their dual cells, some at a time. Assumes nothing.
-use Prim.Native.Nat.{ℕ, _-_, _/_, _^_, min}
+use Prim.Native.Nat.{ℕ, _-_, _*_, _/_, _^_, min}
 use mathlib.Core.Path.{_≡_}
 use mathlib.Core.Bool.{cond}
 use mathlib.Core.List.{List, [], _∷_, _++_}
 use lib.Dec.{leb}
-use lib.ListN.{length, take}
+use lib.ListN.{length, take, drop}
 use Rattle.morton.specs.Level.{deepest}
 use Rattle.tree.specs.Down.{Nodes}
 use Rattle.vertices.specs.Walk.{placeAt, Spot, spotsOf, verticesOf, levelsOf}
@@ -23,13 +23,17 @@ wanted from room ss = take room (since from ss)
 abbrev pub eight : (ℕ → ℕ) → List ℕ
 eight f = f 0 ∷ f 1 ∷ f 2 ∷ f 3 ∷ f 4 ∷ f 5 ∷ f 6 ∷ f 7 ∷ []
 
--- The places of the eight nodes round a vertex, in corner order.
+-- The places of the eight nodes round a vertex, in the order of its dual cell.
 unfoldable pub roundOf : Nodes → Spot → List ℕ
 roundOf n s = eight (λ o. placeAt n (s .level) (s .vertex / 8 ^ (deepest - s .level)) o)
 
 unfoldable pub placesOf : Nodes → List Spot → List ℕ
 placesOf n [] = []
 placesOf n (s ∷ ss) = roundOf n s ++ placesOf n ss
+
+-- The eight that go with vertex j, in a table of places.
+abbrev pub placesAt : ℕ → List ℕ → List ℕ
+placesAt j places = take 8 (drop (8 * j) places)
 
 -- The vertex table, the level table and the table of places, which has eight for each vertex.
 pub record Cells : Type 0 where
