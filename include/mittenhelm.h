@@ -4,8 +4,8 @@
  * and that no other parameter of the same call points to; nothing is kept after the call. A pointer with a length is a table
  * of so many places: it must not be null even where the length is 0, and no two tables or places may overlap.
  *
- * Lengths, starts, counts and places are uint64_t on every host, since the proved code takes them in 8 bytes. On a 32-bit host C's own
- * type for sizes has 4: no compiler would warn, and the first call would store somewhere else.
+ * Lengths, starts, counts and the places of nodes are uint64_t on every host, since the proved code takes them in 8 bytes. On a
+ * 32-bit host C's own type for sizes has 4: no compiler would warn, and the first call would store somewhere else.
  *
  * A function that can refuse returns 0 where it accepts, and writes its result where the pointer says. Else it returns the
  * refusal's number and writes nothing: no out parameter, no state and no table.
