@@ -165,9 +165,18 @@ uint32_t mittenhelm_dual_cell(
     uint64_t vertex, uint32_t level, uint64_t *cell_keys /* [8] */, float *cell_distances /* [8] */, uint64_t *cell_places /* [8] */,
     uint32_t *tried);
 
-/* The slab in which the dual cell of an inner vertex at a level lies, of 2^exponent slabs (0 to 15) along z: that of its vertex.
- * Refusals 4, 5. */
-uint32_t mittenhelm_slab(uint64_t vertex, uint32_t level, uint32_t exponent, uint32_t *slab);
+/* The slabs that the dual cell of an inner vertex at a level reaches, of 2^exponent slabs (0 to 15) along z, slab 0 being the lowest. The
+ * cell reaches from the lowest to the highest of the centres of its eight nodes: `first` and `last` are the slabs of those two heights,
+ * each multiplied by 2^exponent and rounded down, so that a centre on the border of two slabs lies in the upper one. No node of the cell
+ * may be given up before slab `last` is done. first <= last < 2^exponent (`reach-order`). The level matters, since with it goes which eight
+ * nodes the cell has. Refusals 11, 4, 5.
+ *
+ * An example: in the tree of nine nodes above, the centres of the middle vertex's cell are 1/4 and 3/4 high. Of two slabs it reaches 0 to 1,
+ * of four 1 to 3, and of one 0 to 0. */
+uint32_t mittenhelm_slabs(
+    const uint64_t *keys, uint64_t keys_length, const float *distances, uint64_t distances_length,
+    const uint16_t *firsts, uint64_t firsts_length, const uint64_t *leaves, uint64_t leaves_length,
+    uint64_t vertex, uint32_t level, uint32_t exponent, uint32_t *first, uint32_t *last);
 
 /* Each call above that reads a tree first goes over all of it, to see that it is sound. A host that reads much checks once with
  * mittenhelm_sound, keeps the tables as they are, and then calls these, each of which is given only the tables that it reads. Of a
@@ -210,6 +219,12 @@ uint32_t mittenhelm_dual_cell_trusting(
     const uint16_t *firsts, uint64_t firsts_length,
     uint64_t vertex, uint32_t level, uint64_t *cell_keys /* [8] */, float *cell_distances /* [8] */, uint64_t *cell_places /* [8] */,
     uint32_t *tried);
+
+/* As mittenhelm_slabs of a tree that was checked before, of which the keys and first children are given; a side for which nothing is found,
+ * as there is none in a sound tree, counts as the cube's middle. Refusals 4, also where there is one key, and 5. */
+uint32_t mittenhelm_slabs_trusting(
+    const uint64_t *keys, uint64_t keys_length, const uint16_t *firsts, uint64_t firsts_length,
+    uint64_t vertex, uint32_t level, uint32_t exponent, uint32_t *first, uint32_t *last);
 
 #ifdef __cplusplus
 }

@@ -13,6 +13,7 @@ pub mod Forged
 pub mod Soundness
 pub mod Demands
 pub mod Reading
+pub mod Slabs
 pub mod Batches
 pub mod Most
 pub mod Rooms

@@ -136,10 +136,10 @@ module _ (t : Tree) (start n : ℕ) (was left : Lists) (w : Wrote (t .leaves) st
   levels-part : part start n (left .levels) ≡ w .ls
   levels-part = ap (part start n) (w .levels-are) ∙ part-written (was .levels) (w .ls) start n (w .count ∙ sym (w .listed .paired)) (w .room .levels)
 
-  vertices-at : (j : ℕ) → j < n → getD (left .vertices) (start + j) 0 ≡ getD (w .vs) j 0
+  pub vertices-at : (j : ℕ) → j < n → getD (left .vertices) (start + j) 0 ≡ getD (w .vs) j 0
   vertices-at j h = sym (part-at (left .vertices) start n j h) ∙ ap (λ (xs : List ℕ). getD xs j 0) vertices-part
 
-  levels-at : (j : ℕ) → j < n → getD (left .levels) (start + j) 0 ≡ getD (w .ls) j 0
+  pub levels-at : (j : ℕ) → j < n → getD (left .levels) (start + j) 0 ≡ getD (w .ls) j 0
   levels-at j h = sym (part-at (left .levels) start n j h) ∙ ap (λ (xs : List ℕ). getD xs j 0) levels-part
 
 -- ---- all of it
@@ -148,7 +148,7 @@ module _ (t : Tree) (sound : Sound t) (D : ℕ) (deep : D ≤ deepest) (leaf : (
   s : Shape D (t .keys) (t .leaves)
   s = sound-shape-to D t sound leaf
 
-  shallow : (k : ℕ) → In k (t .leaves) → level k ≤ 20
+  pub shallow : (k : ℕ) → In k (t .leaves) → level k ≤ 20
   shallow k m = omega (arith, sound .cells k (sound .leaves-childless k m .0) .1)
 
   leaves-cover : Covers D (t .leaves)
@@ -180,7 +180,7 @@ module _ (t : Tree) (sound : Sound t) (D : ℕ) (deep : D ≤ deepest) (leaf : (
       has-none start was left r same (Count m) (_, w) = absurd (r (subst (λ (m : ℕ). Room start m was) (w .count ∙ same (w .vs) (w .ls) (w .listed)) (w .room)))
       has-none start was left r same (list.Refused k) (_, why) = ⊎-elim (λ x. absurd (x .0 sound)) (λ x. ap list.Refused (x .2)) why
 
-  dual-read : (vs ls : List ℕ) → Listed (t .leaves) vs ls → (j : ℕ) → j < length vs
+  pub dual-read : (vs ls : List ℕ) → Listed (t .leaves) vs ls → (j : ℕ) → j < length vs
       → (keys : List ℕ) (distances : List Float) (places : List ℕ) (tried : ℕ) → DualCell t (getD ls j 0) (getD vs j 0) keys distances places tried
       → (i : ℕ) → i < 8 → HoldsAlone D t (sideOf D (getD vs j 0) i) (getD keys i 0) (getD distances i nan) (getD places i 0)
   dual-read vs ls list j l keys distances places tried c i h =
@@ -196,13 +196,13 @@ module _ (t : Tree) (sound : Sound t) (D : ℕ) (deep : D ≤ deepest) (leaf : (
       (entry D L v i (t .leaves) deep low h leaves-cover inner grid (listed-deepest (t .leaves) vs ls shallow list j l)) (c .entry i h)
 
   -- a listed vertex is inner at its level, and so the tree isn't the root alone
-  listed-inner : (vs ls : List ℕ) → Listed (t .leaves) vs ls → (j : ℕ) → j < length vs → isInner (getD ls j 0) (getD vs j 0) ≡ true
+  pub listed-inner : (vs ls : List ℕ) → Listed (t .leaves) vs ls → (j : ℕ) → j < length vs → isInner (getD ls j 0) (getD vs j 0) ≡ true
   listed-inner vs ls list j l =
       let f = list .from j l in
       let g = f .1 in
       rw (← (g .gives), ← (g .at-level)) (vertex-inner (level (g .leaf)) (g .leaf) (g .corner) (λ z. omega (arith, f .0, g .gives)))
 
-  listed-more : (vs ls : List ℕ) → Listed (t .leaves) vs ls → (j : ℕ) → j < length vs → 1 < length (t .keys)
+  pub listed-more : (vs ls : List ℕ) → Listed (t .leaves) vs ls → (j : ℕ) → j < length vs → 1 < length (t .keys)
   listed-more vs ls list j l =
       let g = giver (t .leaves) vs ls shallow list j l in
       let node : In (g .leaf) (t .keys) = s .here (g .leaf) (g .is-leaf) in

@@ -2,6 +2,7 @@
 pub mod Run
 pub mod Demands
 pub mod Reading
+pub mod Slabs
 pub mod Rooms
 pub mod Most
 pub mod Batches

@@ -1,5 +1,4 @@
 -- The laws behind `dual`.
 pub mod Sharing
 pub mod Filling
-pub mod Slabs
 pub mod One

@@ -10,16 +10,14 @@ use lib.Ieee.Scale.{finite}
 use lib.ListN.{length, getD}
 use lib.Seq.{ext-getD}
 use Rattle.morton.specs.Vertex.{isInner, sideOf}
-use Rattle.morton.proofs.One.{OnlyOne, equal}
+use Rattle.morton.proofs.One.{OnlyOne}
 use Rattle.tree.specs.Tree.{Tree, Sound}
 use Rattle.tree.specs.Down.{Nodes}
 use Rattle.tree.proofs.Finding.{nodes}
 use Rattle.tree.proofs.One.{deepest-key, deepest-distance, deepest-place, deepest-finite}
 use Rattle.dual.specs.declared.Dual.{Dual}
-use Rattle.dual.specs.declared.SlabAnswer.{SlabAnswer}
 use Rattle.dual.specs.declared.Tried.{Tried}
 use Rattle.dual.specs.declared.Tried.the-variants.{Keys, Refused}
-use Rattle.dual.specs.Slab.{slabAnswer}
 use Rattle.geometry.specs.Grid.{sum}
 use Rattle.dual.specs.Dual.{triedTo, DualCell, NoCell, DualSays, Around, TrustingSays}
 use Rattle.dual.proofs.Filling.{trusting-dual}
@@ -108,8 +106,3 @@ dual-cell-trusting-one ns ds L v r s p q = go (r .tried) (s .tried) refl refl p 
 pub trusting-is-dual-cell : (t : Tree) → Sound t → (L v : ℕ) → v < 2 ^ 64 → (r s : Dual)
     → DualSays t L v (r .keys) (r .distances) (r .places) (r .tried) → TrustingSays (nodes t) (t .distances) L v (s .keys) (s .distances) (s .places) (s .tried) → r ≡ s
 trusting-is-dual-cell t S L v word r s p q = dual-cell-one t L v r s p (trusting-dual t S L v word (s .keys) (s .distances) (s .places) (s .tried) q)
-
--- ---- slabs
-
-pub slab-one : (v L s : ℕ) → OnlyOne (λ (r : SlabAnswer). r ≡ slabAnswer v L s)
-slab-one v L s = equal (slabAnswer v L s)

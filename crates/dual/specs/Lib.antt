@@ -1,3 +1,2 @@
 -- What the contracts of `dual` cite.
 pub mod Dual
-pub mod Slab

@@ -1,4 +1,4 @@
-// The dual cells of a finished tree's vertices, and their slabs. From the search for eight nodes in `extract_surface`, in
+// The dual cells of a finished tree's vertices. From the search for eight nodes in `extract_surface`, in
 // src/linear_hashed_marching_cubes.rs of isosurface 0.0.4.
 use morton::Key;
 ghost use mathlib.Core.Path.{_≡_};
@@ -9,7 +9,6 @@ ghost use Rattle.morton.specs.Level.{deepest, Cell};
 ghost use Rattle.morton.specs.Vertex.{isInside};
 ghost use Rattle.tree.specs.Tree.{treeOf};
 ghost use Rattle.tree.specs.Down.{nodesOf};
-ghost use Rattle.dual.specs.Slab.{slabAnswer};
 ghost use Rattle.dual.specs.Dual.{DualSays, EntryFor, RefusedSays, AroundSays, TrustingSays};
 
 // How many keys were tried, or the number of the refusal.
@@ -24,12 +23,6 @@ pub struct Dual {
     pub keys: [u64; 8],
     pub distances: [f32; 8],
     pub places: [usize; 8],
-}
-
-// The slab's number, from 0 on, or the number of the refusal.
-pub enum SlabAnswer {
-    Is(u32),
-    Refused(u32),
 }
 
 // One entry of a dual cell.
@@ -169,20 +162,4 @@ pub fn dual_cell(
         return refused(11);
     }
     dual_cell_trusting(keys, distances, firsts, vertex, level)
-}
-
-// The slab of the dual cell of a vertex at a level: with exponent s the cube has 2^s slabs along z.
-pub fn slab(vertex: u64, level: u32, exponent: u32) -> SlabAnswer
-    ensures { λ r. ⌜ r ≡ slabAnswer vertex level exponent ⌝ }
-{
-    let v = Key { code: vertex };
-    if !v.is_inner(level) {
-        return SlabAnswer::Refused(4);
-    }
-    if exponent > morton::LIMIT {
-        return SlabAnswer::Refused(5);
-    }
-    let below = morton::DEEPEST - exponent;
-    let slab = v.height() >> below;
-    SlabAnswer::Is(slab)
 }

@@ -2,13 +2,13 @@
 // program `counts` prints for some inputs.
 use build::Answer;
 use dual::Dual;
-use dual::SlabAnswer;
 use dual::Tried;
 use libc::STDOUT_FILENO;
 use morton::CentreAnswer;
 use morton::Key;
 use morton::KeyAnswer;
 use morton::SizeAnswer;
+use slabs::SlabsAnswer;
 use tree::Lookup;
 use vertices::ListAnswer;
 ghost use Prim.Native.Nat.{_≤_};
@@ -415,13 +415,26 @@ fn is_empty(cell: Dual, number: u32) -> bool {
     }
 }
 
-// The slab of the vertex at corner 7 of a cell of level 3.
-fn lies_in(key: u64, exponent: u32, slab: u32) -> bool {
-    let answer = dual::slab(far_corner(key), 3, exponent);
+// The slabs that the cell of the vertex at corner 7 of a cell of level 3 reaches.
+fn reaches(keys: &[u64], firsts: &[u16], key: u64, exponent: u32, low: u32, high: u32) -> bool {
+    let answer = slabs::slabs_trusting(keys, firsts, far_corner(key), 3, exponent);
     match answer {
-        SlabAnswer::Is(n) => n == slab,
-        SlabAnswer::Refused(_) => false,
+        SlabsAnswer::Reach { first, last } => first == low && last == high,
+        SlabsAnswer::Refused(_) => false,
     }
+}
+
+fn say_of_slabs(keys: &[u64], firsts: &[u16]) {
+    // The centres of its nodes are 1/8, 3/16 and 3/8 high.
+    say(
+        b"that tree, vertex of 519, corner 7, level 3: slabs 1 to 3 of 8, 2 to 6 of 16",
+        reaches(keys, firsts, 519, 3, 1, 3) && reaches(keys, firsts, 519, 4, 2, 6),
+    );
+    // At 1 on x, 3 on y and 7 on z, of 8, it lies inside one leaf, whose centre is 7/8 high.
+    say(
+        b"that tree, vertex of 816, corner 7, level 3: slab 7 of 8, 3 of 4",
+        reaches(keys, firsts, 816, 3, 7, 7) && reaches(keys, firsts, 816, 2, 3, 3),
+    );
 }
 
 fn say_of_tree(keys: &[u64], distances: &[f32], firsts: &[u16], leaves: &[u64]) {
@@ -449,6 +462,7 @@ fn say_of_tree(keys: &[u64], distances: &[f32], firsts: &[u16], leaves: &[u64]) 
         b"that tree, 0 for a vertex: 4, and nothing in the arrays",
         is_empty(dual::dual_cell(keys, distances, firsts, leaves, 0, 3), 4),
     );
+    say_of_slabs(keys, firsts);
 }
 
 fn say_of_broken(keys: &[u64], firsts: &[u16], leaves: &[u64]) {
@@ -767,11 +781,6 @@ fn main() {
     );
     say_of_73();
     say_of_81();
-    // Corner 7 of 816 lies at 1 on x, 3 on y and 7 on z, of 8.
-    say(
-        b"vertex of 816, corner 7, level 3: slab 7 of 8, 3 of 4, 0 of 1",
-        lies_in(816, 3, 7) && lies_in(816, 2, 3) && lies_in(816, 0, 0),
-    );
     show_ends();
     show_distances();
     show_broken();

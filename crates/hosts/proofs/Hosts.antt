@@ -24,19 +24,23 @@ use Rattle.vertices.specs.Listing.{Lists, ListSays}
 use Rattle.dual.specs.declared.Dual.{Dual}
 use Rattle.dual.specs.declared.Tried.{Tried}
 use Rattle.dual.specs.declared.Tried.the-variants as tried
+use Rattle.slabs.specs.declared.SlabsAnswer.{SlabsAnswer}
+use Rattle.slabs.specs.declared.SlabsAnswer.the-variants as slabs
 use Rattle.demands.specs.Run.{Run}
 use Rattle.demands.specs.Run.Run.{started as run-started, asked as run-asked, finished as run-finished}
 use Rattle.demands.specs.Reading.{HoldsAlone, LeafCell, Reading}
+use Rattle.demands.specs.Slabs.{HasVertex}
 use Rattle.demands.proofs.Call.{ask-refused, distance-ends}
 use Rattle.demands.proofs.Trace.{leaves-count, run-traced}
 use Rattle.demands.proofs.Fits.{count-done, refusal-broken, refusal-16}
 use Rattle.demands.proofs.Demands.{building, queue-of-64}
 use Rattle.demands.proofs.Reading.{of-finished-builds}
+use Rattle.demands.proofs.Slabs.{slabs-of-trees}
 use Rattle.mittenhelm_builds.specs.Words.{stateOf, wordsOf, Reply, reply, handOver, startReplies, Effect, effect, effectOf, distanceEffect}
 use Rattle.mittenhelm_builds.specs.Header.{Told}
 use Rattle.mittenhelm_builds.proofs.Words.{start-deep, start-wordless, start-over, distance-wordless, distance-over}
 use Rattle.mittenhelm_builds.proofs.Header.{read-back, written-back, words-are-nine, words-told}
-use Rattle.mittenhelm_reading.specs.Reading.{Eight, HandsEight, HandsList}
+use Rattle.mittenhelm_reading.specs.Reading.{Eight, HandsEight, HandsList, Span, HandsSpan}
 use Rattle.hosts.specs.HostRun.{Host, HostRun}
 use Rattle.hosts.specs.HostRun.HostRun.{started, told}
 use Rattle.hosts.specs.Hosts.{IsABuild, InReach}
@@ -170,6 +174,10 @@ module _ {D : ℕ} {tree : Tree} (sound : Sound tree) (h : Reading D tree) where
       )
       go (tried.Refused m) e _ = absurd (c .answered m e)
 
+  span : (s v k : ℕ) (then out : Span) (a : SlabsAnswer) → HasVertex s v a → HandsSpan a then k out → (k ≡ 0) × HasVertex s v (slabs.Reach (out .first) (out .last))
+  span s v k then out (slabs.Reach first last) has (z, o) = (z, subst (λ (x : Span). HasVertex s v (slabs.Reach (x .first) (x .last))) (sym o) has)
+  span s v k then out (slabs.Refused m) has _ = absurd has
+
   hosts-reading : HostsReading D tree
   hosts-reading =
       record {
@@ -177,6 +185,8 @@ module _ {D : ℕ} {tree : Tree} (sound : Sound tree) (h : Reading D tree) where
         room = full;
         dual = λ start count was before left x j k l then out (a, says, y).
             eight-entries _ k then out a (h .dual start count before left (listed start count was before left x) j l a says) y;
+        slabs = λ start count was before left x j k s l e then out (a, says, y).
+            span s _ k then out a (slabs-of-trees tree .vertex start count before left (listed start count was before left x) j l s e a says) y;
       }
 
 pub hosts-finished : HostsFinished

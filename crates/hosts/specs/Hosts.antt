@@ -13,12 +13,14 @@ use Rattle.tree.specs.Tree.{Tree, AllFinite, Sound}
 use Rattle.vertices.specs.Listing.{Lists}
 use Rattle.dual.specs.declared.Dual.{Dual}
 use Rattle.dual.specs.declared.Tried.the-variants.{Keys}
+use Rattle.slabs.specs.declared.SlabsAnswer.the-variants.{Reach}
 use Rattle.demands.specs.Run.{Run}
 use Rattle.demands.specs.Demands.{AfterEveryDistance}
 use Rattle.demands.specs.Reading.{ListsCorners, LeafCell, part, Reading}
+use Rattle.demands.specs.Slabs.{HasVertex}
 use Rattle.mittenhelm_builds.specs.Words.{stateOf, wordsOf, reply, startReplies, Effect, effect, distanceEffect}
 use Rattle.mittenhelm_builds.specs.Header.{word, Told}
-use Rattle.mittenhelm_reading.specs.Reading.{Eight, HandsList, HandsDual}
+use Rattle.mittenhelm_reading.specs.Reading.{Eight, HandsList, HandsDual, Span, HandsSlabs}
 use Rattle.hosts.specs.HostRun.{Host, HostRun, treeIn}
 
 -- ---- a host's build is a build, and each build is in reach of every host
@@ -83,7 +85,7 @@ HostsQueueOf64 =
 abbrev pub dualIn : Eight → Dual
 dualIn out = record { keys = out .keys; distances = out .distances; places = out .places; tried = Keys (out .tried) }
 
--- What a host reads from a tree: `HandsList` and `HandsDual` are what the exported calls promise.
+-- What a host reads from a tree: `HandsList`, `HandsDual` and `HandsSlabs` are what the exported calls promise.
 pub record HostsReading (D : ℕ) (tree : Tree) : Type 0 where
   -- A list for which 0 is returned has the leaf corners strictly inside the cube; else 12 is returned.
   pub list : (start count was : ℕ) (before left : Lists) → HandsList tree start before left was 0 count
@@ -95,6 +97,11 @@ pub record HostsReading (D : ℕ) (tree : Tree) : Type 0 where
       → (j k : ℕ) → j < count → (then out : Eight)
       → HandsDual tree (getD (left .levels) (start + j) 0) (getD (left .vertices) (start + j) 0) then k out
       → (k ≡ 0) × LeafCell D tree (getD (left .vertices) (start + j) 0) (dualIn out)
+  -- So it is with the slabs of that cell, for an exponent of 15 at most, and the vertex itself lies in one of them.
+  pub slabs : (start count was : ℕ) (before left : Lists) → HandsList tree start before left was 0 count
+      → (j k s : ℕ) → j < count → s ≤ 15 → (then out : Span)
+      → HandsSlabs tree (getD (left .levels) (start + j) 0) (getD (left .vertices) (start + j) 0) s then k out
+      → (k ≡ 0) × HasVertex s (getD (left .vertices) (start + j) 0) (Reach (out .first) (out .last))
 
 -- Of a finished build the first n keys, distances and first children and the first m leaves are a sound tree, and are read right.
 abbrev pub HostsFinished : Type 0

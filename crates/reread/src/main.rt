@@ -1,12 +1,12 @@
 // Replays the sample's lines that read a tree, and counts the lines that agree. The sample is the oracle's answers, written by
 // tools/sample. `put` lines write a tree into the tables, and the lines after them lend the first places, as many as A says.
-use dual::SlabAnswer;
 use dual::Tried;
 use libc::STDIN_FILENO;
 use libc::STDOUT_FILENO;
 use sample::END;
 use sample::Line;
 use sample::Tally;
+use slabs::SlabsAnswer;
 use tree::Lookup;
 use vertices::ListAnswer;
 
@@ -84,10 +84,18 @@ fn same_count(answer: ListAnswer, l: Line) -> bool {
     }
 }
 
-fn same_slab(answer: SlabAnswer, l: Line) -> bool {
+// C has the exponent above the level.
+fn slabs(l: Line, keys: &[u64], distances: &[f32], firsts: &[u16], leaves: &[u64]) -> bool {
+    let exponent = ((l.c >> 32) % 0x1_0000_0000) as u32;
+    let answer = slabs::slabs(keys, distances, firsts, leaves, l.b, l.low_c, exponent);
     match answer {
-        SlabAnswer::Is(n) => sample::first_is(l, n as u64),
-        SlabAnswer::Refused(number) => number == l.status,
+        SlabsAnswer::Reach { first, last } => {
+            if last as u64 != l.y {
+                return false;
+            }
+            sample::first_is(l, first as u64)
+        }
+        SlabsAnswer::Refused(number) => number == l.status,
     }
 }
 
@@ -147,6 +155,7 @@ fn read_lent(l: Line, keys: &[u64], distances: &[f32], firsts: &[u16], leaves: &
         17 => is_sound(l, keys, distances, firsts, leaves),
         18 => same_lookup(tree::look_up(keys, distances, firsts, leaves, l.b), l),
         21 => dual_cell(l, keys, distances, firsts, leaves),
+        22 => slabs(l, keys, distances, firsts, leaves),
         _ => false,
     }
 }
@@ -190,7 +199,6 @@ fn reads(
     let op = l.op;
     match op {
         20 => same_listed(l, vertices, levels),
-        22 => same_slab(dual::slab(l.a, l.low_b, l.low_c), l),
         _ => lend(l, keys, distances, firsts, leaves),
     }
 }
@@ -264,7 +272,7 @@ fn main() {
     print(b"list ", agree, 19);
     print(b"vertex at a place ", agree, 20);
     print(b"dual_cell ", agree, 21);
-    print(b"slab ", agree, 22);
+    print(b"slabs ", agree, 22);
     io::write_all(STDOUT_FILENO, b"differ ");
     print_count(t.differ);
 }

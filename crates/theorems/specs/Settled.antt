@@ -33,10 +33,11 @@ use Rattle.vertices.specs.Listing.{Lists, ListSays, TrustingSays as ListTrustin
 use Rattle.vertices.specs.Cells.{Cells, CellsSays}
 use Rattle.vertices.proofs.One as vertices
 use Rattle.dual.specs.declared.Dual.{Dual}
-use Rattle.dual.specs.declared.SlabAnswer.{SlabAnswer}
 use Rattle.dual.specs.Dual.{DualSays, TrustingSays as DualTrustingSays}
-use Rattle.dual.specs.Slab.{slabAnswer}
 use Rattle.dual.proofs.One as dual
+use Rattle.slabs.specs.declared.SlabsAnswer.{SlabsAnswer}
+use Rattle.slabs.specs.Heights.{SlabsSays, TrustingSays as SlabsTrustingSays}
+use Rattle.slabs.proofs.One as slabs
 use Rattle.counting.specs.declared.Text.{Text}
 use Rattle.counting.specs.Printed.{lineOf, Holds}
 use Rattle.counting.proofs.One as counting
@@ -44,9 +45,9 @@ use Rattle.mittenhelm_keys.specs.Keys.{HandsKey, HandsSize, Three, HandsCentre}
 use Rattle.mittenhelm_keys.proofs.One as keys
 use Rattle.mittenhelm_builds.specs.Words.{Reply, startReplies, Effect, distanceEffect}
 use Rattle.mittenhelm_builds.proofs.One as builds
-use Rattle.mittenhelm_reading.specs.Reading.{Found, HandsFound, HandsLookup, Eight, HandsEight, HandsDual, HandsCount, HandsList, HandsSlab}
+use Rattle.mittenhelm_reading.specs.Reading.{Found, HandsFound, HandsLookup, Eight, HandsEight, HandsDual, HandsCount, HandsList, Span, HandsSpan, HandsSlabs}
 use Rattle.mittenhelm_reading.proofs.One as reading
-use Rattle.mittenhelm_trusting.specs.Trusting.{HandsTrustedList, HandsTrustedDual}
+use Rattle.mittenhelm_trusting.specs.Trusting.{HandsTrustedList, HandsTrustedDual, HandsTrustedSlabs}
 use Rattle.mittenhelm_trusting.proofs.One as trusting
 
 -- Two answers that meet a promise are the same.
@@ -148,8 +149,11 @@ dual-cell-one = dual.dual-cell-one
 pub dual-cell-trusting-one : (ks : Nodes) (ds : List Float) (L v : ℕ) → OnlyOne (λ (r : Dual). DualTrustingSays ks ds L v (r .keys) (r .distances) (r .places) (r .tried))
 dual-cell-trusting-one = dual.dual-cell-trusting-one
 
-pub slab-one : (v L s : ℕ) → OnlyOne (λ (r : SlabAnswer). r ≡ slabAnswer v L s)
-slab-one = dual.slab-one
+pub slabs-one : (t : Tree) (L v s : ℕ) → OnlyOne (SlabsSays t L v s)
+slabs-one = slabs.slabs-one
+
+pub slabs-trusting-one : (ks : Nodes) (L v s : ℕ) → OnlyOne (SlabsTrustingSays ks L v s)
+slabs-trusting-one = slabs.slabs-trusting-one
 
 -- ---- the line that `counts` prints
 
@@ -212,8 +216,8 @@ mittenhelm-list-one = reading.list-one
 pub mittenhelm-dual-cell-one : (t : Tree) (L v : ℕ) (was : Eight) → OnlyOne (λ (r : ℕ × Eight). HandsDual t L v was (r .0) (r .1))
 mittenhelm-dual-cell-one = reading.dual-cell-one
 
-pub mittenhelm-slab-one : (v L e was : ℕ) → OnlyOne (λ (r : ℕ × ℕ). HandsSlab (slabAnswer v L e) was (r .0) (r .1))
-mittenhelm-slab-one = reading.slab-one
+pub mittenhelm-slabs-one : (t : Tree) (L v s : ℕ) (was : Span) → OnlyOne (λ (r : ℕ × Span). HandsSlabs t L v s was (r .0) (r .1))
+mittenhelm-slabs-one = reading.slabs-one
 
 pub mittenhelm-look-up-trusting-one : (ks : Nodes) (ds : List Float) (k : ℕ) (was : Found) → OnlyOne (λ (r : ℕ × Found). HandsFound (trustingOf ks ds k) was (r .0) (r .1))
 mittenhelm-look-up-trusting-one = trusting.look-up-trusting-one
@@ -227,6 +231,9 @@ mittenhelm-cells-trusting-one = trusting.cells-trusting-one
 pub mittenhelm-dual-cell-trusting-one : (ks : Nodes) (ds : List Float) (L v : ℕ) (was : Eight) → OnlyOne (λ (r : ℕ × Eight). HandsTrustedDual ks ds L v was (r .0) (r .1))
 mittenhelm-dual-cell-trusting-one = trusting.dual-cell-trusting-one
 
+pub mittenhelm-slabs-trusting-one : (ks : Nodes) (L v s : ℕ) (was : Span) → OnlyOne (λ (r : ℕ × Span). HandsTrustedSlabs ks L v s was (r .0) (r .1))
+mittenhelm-slabs-trusting-one = trusting.slabs-trusting-one
+
 -- ---- what hands an answer to a host
 
 pub hand-found-one : (a : Lookup) (was : Found) → OnlyOne (λ (r : ℕ × Found). HandsFound a was (r .0) (r .1))
@@ -237,3 +244,6 @@ hand-eight-one = reading.hand-eight-one
 
 pub hand-count-one : (a : ListAnswer) (was : ℕ) → OnlyOne (λ (r : ℕ × ℕ). HandsCount a was (r .0) (r .1))
 hand-count-one = reading.hand-count-one
+
+pub hand-span-one : (a : SlabsAnswer) (was : Span) → OnlyOne (λ (r : ℕ × Span). HandsSpan a was (r .0) (r .1))
+hand-span-one = reading.hand-span-one

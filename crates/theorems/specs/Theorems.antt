@@ -7,6 +7,9 @@ use mathlib.Core.List.{List, _∷_, _++_, reverse}
 use lib.Ieee.{Float, nan}
 use lib.Ieee.Scale.{finite}
 use lib.ListN.{length, getD, take}
+use Rattle.morton.specs.declared.CentreAnswer.the-variants as centre
+use Rattle.morton.specs.declared.Vec3.{Vec3}
+use Rattle.morton.specs.Answers.{CentreSays}
 use Rattle.morton.specs.Exact.{Exactly}
 use Rattle.morton.specs.Field.{coord}
 use Rattle.morton.specs.Level.{deepest, limit, level, Cell}
@@ -38,17 +41,24 @@ use Rattle.vertices.proofs.One as vertices
 use Rattle.dual.specs.declared.Dual.{Dual}
 use Rattle.dual.specs.declared.Tried.{Tried}
 use Rattle.dual.specs.declared.Tried.the-variants as tried
-use Rattle.dual.specs.Dual.{DualCell, DualSays, keyIn, placeIn, TrustingSays as DualTrustingSays}
+use Rattle.dual.specs.Dual.{NoCell, DualCell, DualSays, keyIn, placeIn, TrustingSays as DualTrustingSays}
 use Rattle.dual.proofs.Filling as filling
 use Rattle.dual.proofs.One as dual
+use Rattle.slabs.specs.declared.SlabsAnswer.{SlabsAnswer}
+use Rattle.slabs.specs.declared.SlabsAnswer.the-variants as slabs
+use Rattle.slabs.specs.Heights.{slabOf, SlabsSays, TrustingSays as SlabsTrustingSays}
+use Rattle.slabs.proofs.Spans as spans
+use Rattle.slabs.proofs.One as one-slabs
 use Rattle.demands.specs.Run.{Run, nodeKeys, leafKeys, openCells, wholeOf, childrenOf}
 use Rattle.demands.specs.Demands.{AfterEveryDistance}
 use Rattle.demands.specs.Reading.{Once, LeafCorner, ListsCorners, LeafCell, part, Reading, treeAfter}
+use Rattle.demands.specs.Slabs.{HasVertex}
 use Rattle.demands.specs.Rooms.{RoomFor, nodesWith}
 use Rattle.demands.specs.Most.{MostVertices}
 use Rattle.demands.specs.Batches.{Batches, Done}
 use Rattle.demands.proofs.Demands as demands
 use Rattle.demands.proofs.Reading.{of-sound-trees, of-finished-builds}
+use Rattle.demands.proofs.Slabs.{slabs-of-trees}
 use Rattle.demands.proofs.Rooms as rooms
 use Rattle.demands.proofs.Most as most
 use Rattle.demands.proofs.Batches as batches
@@ -304,6 +314,46 @@ module _ (t : Tree) (sound : Sound t) (D : ℕ) (deep : D ≤ deepest) (fine : (
         pub dual-distance : getD (r .distances) i nan ≡ getD (t .distances) (getD (r .places) i 0) nan
         dual-distance = found .entry i h .its-distance
 
+-- ---- the slabs that a dual cell reaches
+
+-- They are refused for three reasons, in this order: the tree isn't sound; it isn't an inner vertex at that level, or the tree is the root alone; the exponent is above 15.
+pub slabs-refused : (t : Tree) (L v s k : ℕ) → SlabsSays t L v s (slabs.Refused k)
+    → ((Sound t → ⊥) × (k ≡ 11))
+    ⊎ ((Sound t × NoCell (t .keys) L v × (k ≡ 4))
+    ⊎ (Sound t × (NoCell (t .keys) L v → ⊥) × (15 < s) × (k ≡ 5)))
+slabs-refused t = slabs-of-trees t .refused
+
+-- The first is no higher than the last, and of 2^s slabs there is none above.
+pub reach-order : (t : Tree) (L v s first last : ℕ) → SlabsSays t L v s (slabs.Reach first last) → (first ≤ last) × (last < 2 ^ s)
+reach-order t = slabs-of-trees t .order
+
+module _ (t : Tree) (L v s first last : ℕ) (word : v < 2 ^ 64) (says : SlabsSays t L v s (slabs.Reach first last))
+    (r : Dual) (cell : DualSays t L v (r .keys) (r .distances) (r .places) (r .tried)) where
+  -- Each node of the cell has its centre in one of them,
+  pub reach-each : (i : ℕ) → i < 8 → (first ≤ slabOf s (getD (r .keys) i 0)) × (slabOf s (getD (r .keys) i 0) ≤ last)
+  reach-each = slabs-of-trees t .each {c = r} (record { word = word; slabs = says; cell = cell })
+
+  -- and if all eight are of the vertex's level, and slabs no thinner than they are, these are two slabs at most, next to each other.
+  pub two-slabs : ((i : ℕ) → i < 8 → level (getD (r .keys) i 0) ≡ L) → s ≤ L → last ≤ first + 1
+  two-slabs = slabs-of-trees t .two {c = r} (record { word = word; slabs = says; cell = cell })
+
+-- The slab of a node has the centre that `centre` answers.
+pub centre-height : (k : ℕ) (p : Vec3) → CentreSays k (centre.Is p) → Exactly (p .z) (2 * coord (level k) k 2 + 1) (2 ^ (level k + 1))
+centre-height = spans.centre-height
+
+pub in-its-slab : (s k : ℕ)
+    → (slabOf s k * 2 ^ (level k + 1) ≤ (2 * coord (level k) k 2 + 1) * 2 ^ s) × ((2 * coord (level k) k 2 + 1) * 2 ^ s < (slabOf s k + 1) * 2 ^ (level k + 1))
+in-its-slab = spans.in-its-slab
+
+-- The slabs of a listed vertex's cell aren't refused, and the vertex itself lies in one of them.
+pub vertex-between : (t : Tree) (start n : ℕ) (was left : Lists) → ListSays t start was left (list.Count n)
+    → (j : ℕ) → j < n → (s : ℕ) → s ≤ 15
+    → (r : SlabsAnswer) → SlabsSays t (getD (left .levels) (start + j) 0) (getD (left .vertices) (start + j) 0) s r
+    → HasVertex s (getD (left .vertices) (start + j) 0) r
+vertex-between t = slabs-of-trees t .vertex
+
+-- ---- what is found
+
 -- The key at the place that a lookup answers is the key found, and the distance there the distance found.
 module _ (t : Tree) (asked key : ℕ) (distance : Float) (place tried : ℕ) (says : LookupSays t asked (Found key distance place tried)) where
   pub found-place : StandsAt (t .keys) place key
@@ -336,6 +386,10 @@ list-same = vertices.list-same
 pub trusting-is-dual-cell : (t : Tree) → Sound t → (L v : ℕ) → v < 2 ^ 64 → (r s : Dual)
     → DualSays t L v (r .keys) (r .distances) (r .places) (r .tried) → DualTrustingSays (nodes t) (t .distances) L v (s .keys) (s .distances) (s .places) (s .tried) → r ≡ s
 trusting-is-dual-cell = dual.trusting-is-dual-cell
+
+pub trusting-is-slabs : (t : Tree) → Sound t → (L v s : ℕ) → v < 2 ^ 64 → (q r : SlabsAnswer)
+    → SlabsSays t L v s q → SlabsTrustingSays (nodes t) L v s r → q ≡ r
+trusting-is-slabs = one-slabs.trusting-is-slabs
 
 -- The places that are handed out with a vertex are those of its dual cell: on any tables `dual_cell_trusting` accepts it, and hands back the same eight.
 pub cells-right : (ks : Nodes) (from : ℕ) (was left : Cells) (n : ℕ) → CellsSays ks from was left n → (j : ℕ) → j < n → (ds : List Float)

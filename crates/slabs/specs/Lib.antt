@@ -1,0 +1,2 @@
+-- What the contracts of `slabs` cite.
+pub mod Heights
