@@ -44,7 +44,7 @@ static float distance;
 
 static uint64_t key_out, place_out, cell_keys[8], cell_places[8];
 static float x_out, y_out, z_out, half_out, distance_out, cell_distances[8];
-static uint32_t number_out;
+static uint32_t number_out, first_out, last_out;
 
 /* The paint. */
 
@@ -136,6 +136,7 @@ static uint64_t answer;
 #define CELLS vertices, vertex_room, levels, vertex_room, places, 8 * vertex_room
 #define FOUND &key_out, &distance_out, &place_out, &number_out
 #define CELL cell_keys, cell_distances, cell_places, &number_out
+#define SLABS given, level, exponent, &first_out, &last_out
 
 CALL(level, (given))
 CALL(is_cell, (given))
@@ -155,16 +156,17 @@ CALL(sound, (TREE))
 CALL(look_up, (TREE, given, FOUND))
 CALL(list, (TREE, LIST))
 CALL(dual_cell, (TREE, given, level, CELL))
+CALL(slabs, (TREE, SLABS))
 CALL(look_up_trusting, (NODES, given, FOUND))
 CALL(list_trusting, (WAYS, LIST))
 CALL(cells_trusting, (WAYS, given, CELLS))
 CALL(dual_cell_trusting, (NODES, given, level, CELL))
-CALL(slab, (given, level, exponent, &number_out))
+CALL(slabs_trusting, (WAYS, SLABS))
 
 static struct call *const calls[] = {&call_level, &call_is_cell, &call_parent, &call_add, &call_sub, &call_child, &call_half_size,
     &call_centre, &call_vertex, &call_is_inner, &call_side, &call_should_refine, &call_start, &call_distance, &call_sound,
-    &call_look_up, &call_list, &call_dual_cell, &call_look_up_trusting, &call_list_trusting, &call_cells_trusting,
-    &call_dual_cell_trusting, &call_slab};
+    &call_look_up, &call_list, &call_dual_cell, &call_slabs, &call_look_up_trusting, &call_list_trusting, &call_cells_trusting,
+    &call_dual_cell_trusting, &call_slabs_trusting};
 
 /* Inputs. */
 
@@ -215,8 +217,6 @@ static void measure_vertex(uint64_t number, uint32_t at_level)
     measure(&call_is_inner);
     for (which = 0; which <= 8; which++)
         measure(&call_side);
-    for (exponent = 0; exponent <= LIMIT + 1; exponent++)
-        measure(&call_slab);
 }
 
 /* Trees, by which cells of level 2 and more are split. Each goes down to level 15, but for the last two. */
@@ -373,6 +373,22 @@ static void dual_cell(uint32_t expected, const char *what)
     measure_both(&call_dual_cell, &call_dual_cell_trusting, expected, what);
 }
 
+static void slabs(uint32_t expected, const char *what)
+{
+    measure_both(&call_slabs, &call_slabs_trusting, expected, what);
+}
+
+/* The slabs of one cell by exponents on both sides of its nodes' levels, and above 15. */
+static void slabs_of_exponents(void)
+{
+    for (exponent = 0; exponent <= LIMIT; exponent += 3) {
+        slabs(MITTENHELM_ACCEPTED, "slabs");
+        expect(first_out <= last_out && last_out < (uint32_t)1 << exponent, "slabs that there are");
+    }
+    exponent = LIMIT + 1;
+    slabs(MITTENHELM_ABOVE_FIFTEEN, "slabs of an exponent above 15");
+}
+
 /* Every call that reads a tree, of all of its nodes and vertices. */
 static void read_all(void)
 {
@@ -391,11 +407,14 @@ static void read_all(void)
         given = vertices[i];
         level = levels[i];
         dual_cell(MITTENHELM_ACCEPTED, "dual_cell");
+        slabs_of_exponents();
         level = LIMIT + 5;
         dual_cell(MITTENHELM_ACCEPTED, "dual_cell of a finer level");
+        slabs_of_exponents();
     }
     given = 0;
     dual_cell(MITTENHELM_NOT_A_VERTEX, "dual_cell of no vertex");
+    slabs(MITTENHELM_NOT_A_VERTEX, "slabs of no vertex");
     look_up(MITTENHELM_NOT_A_CELL, "look_up of no cell");
 }
 
@@ -436,6 +455,7 @@ int main(void)
     given = (uint64_t)15 << 60;
     level = 1;
     dual_cell(MITTENHELM_NOT_A_VERTEX, "dual_cell of the root alone");
+    slabs(MITTENHELM_NOT_A_VERTEX, "slabs of the root alone");
     for (size_t i = 0; i < sizeof calls / sizeof calls[0]; i++)
         printf("stack %s %zu\n", calls[i]->name, calls[i]->deepest);
     print_most_vertices(MOST_NODES);

@@ -1,11 +1,11 @@
-//! The calls on keys by value, and the slab of a vertex.
+//! The calls on keys by value.
 
 use crate::case::{same, Case, Checked, Out};
 use crate::inputs::{number, or_edge, vertex_and_level};
 use crate::outcomes::{yes_or_no, ACCEPTED};
 use mittenhelm::raw::*;
 use oracle_answers::inputs::Random;
-use oracle_answers::model::{self, reading, Answer};
+use oracle_answers::model::{self, Answer};
 
 /// How often a case makes its call.
 const TIMES: u32 = 64;
@@ -157,20 +157,6 @@ pub fn centre(case: &mut Case) -> Checked {
         let on = |axis: usize| model.ok().map(|centre| [centre[axis].to_bits()]);
         let differences = [x.difference(on(0), "x"), y.difference(on(1), "y"), z.difference(on(2), "z")];
         case.judge("centre", said, model.map(|_| ACCEPTED), &differences, || format!("{key:#x}"))?;
-    }
-    Ok(())
-}
-
-pub fn slab(case: &mut Case) -> Checked {
-    for _ in 0..TIMES {
-        let (vertex, level) = vertex_and_level(&mut case.random);
-        let some = case.random.below(17) as u32;
-        let exponent = or_edge(some, &mut case.random);
-        let mut slab = Out::<u32>::new();
-        let said = unsafe { mittenhelm_slab(vertex, level, exponent, slab.place()) };
-        let model = reading::slab(vertex, level, exponent);
-        let difference = slab.difference(model.ok().map(|slab| [slab]), "slab");
-        case.judge("slab", said, model.map(|_| ACCEPTED), &[difference], || format!("{vertex:#x}, {level}, {exponent}"))?;
     }
     Ok(())
 }

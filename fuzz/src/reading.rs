@@ -6,7 +6,7 @@ use crate::outcomes::{yes_or_no, ACCEPTED};
 use mittenhelm::most_vertices;
 use mittenhelm::raw::{
     mittenhelm_cells_trusting, mittenhelm_dual_cell, mittenhelm_dual_cell_trusting, mittenhelm_list, mittenhelm_list_trusting,
-    mittenhelm_look_up, mittenhelm_look_up_trusting, mittenhelm_sound,
+    mittenhelm_look_up, mittenhelm_look_up_trusting, mittenhelm_slabs, mittenhelm_slabs_trusting, mittenhelm_sound,
 };
 use oracle_answers::broken::{change, BREAKS};
 use oracle_answers::fields::{field, KINDS};
@@ -14,7 +14,7 @@ use oracle_answers::inputs::Random;
 use oracle_answers::lent::{levels_before, one_nan, places_before, vertices_before, Fenced};
 use oracle_answers::misled::FORGERIES;
 use oracle_answers::model::reading::{
-    firsts_of, write_list, write_placed, Descent, DualCell, Lookup, Placed, Reading, Tables, Walk,
+    firsts_of, write_list, write_placed, Descent, DualCell, Lookup, Placed, Reading, Slabs, Tables, Walk,
 };
 use oracle_answers::model::{self, level, Answer};
 use oracle_answers::questions::{asked, great_starts, lengths};
@@ -372,17 +372,62 @@ impl Given {
         case.judge(name, said, expected.map(|_| ACCEPTED), &differences, || format!("{}, {vertex:#x}, {level}", self.told()))
     }
 
+    fn slabs(&self, case: &mut Case) -> Checked {
+        let (vertex, level) = self.some_vertex(&self.vertices, &mut case.random);
+        let (exponent, mut first, mut last) = (some_exponent(&mut case.random), Out::new(), Out::new());
+        let said = with_tree!(mittenhelm_slabs, self, vertex, level, exponent, first.place(), last.place());
+        let expected = self.reading.slabs(vertex, level, exponent);
+        self.judge_slabs(case, "slabs", (vertex, level, exponent), said, [first, last], expected)
+    }
+
+    fn slabs_trusting(&self, case: &mut Case) -> Checked {
+        let (vertex, level) = self.some_vertex(&self.walk().vertices(), &mut case.random);
+        let (exponent, mut first, mut last) = (some_exponent(&mut case.random), Out::new(), Out::new());
+        let (first_out, last_out) = (first.place(), last.place());
+        let said = with_tables!(mittenhelm_slabs_trusting, self, [keys, firsts], vertex, level, exponent, first_out, last_out);
+        let expected = self.descent.slabs_trusting(vertex, level, exponent);
+        self.judge_slabs(case, "slabs_trusting", (vertex, level, exponent), said, [first, last], expected)
+    }
+
+    /// Judges a call that gives the slabs of a cell in the tree.
+    fn judge_slabs(
+        &self,
+        case: &mut Case,
+        name: &'static str,
+        (vertex, level, exponent): (u64, u32, u32),
+        said: u32,
+        [first, last]: [Out<u32>; 2],
+        expected: Answer<Slabs>,
+    ) -> Checked {
+        let out = expected.ok();
+        let differences = self.with_tables([
+            first.difference(out.map(|slabs| [slabs.first]), "first slab"),
+            last.difference(out.map(|slabs| [slabs.last]), "last slab"),
+        ]);
+        let way = expected.map(|slabs| if slabs.first == slabs.last { "one slab" } else { "several" });
+        let arguments = || format!("{}, {vertex:#x}, {level}, {exponent}", self.told());
+        case.judge(name, said, way, &differences, arguments)
+    }
+
     /// Each call once.
     pub fn every_call(&self, case: &mut Case) -> Checked {
         self.sound(case)?;
         self.look_up(case)?;
         self.list(case)?;
         self.dual_cell(case)?;
+        self.slabs(case)?;
         self.look_up_trusting(case)?;
         self.list_trusting(case)?;
         self.cells_trusting(case)?;
-        self.dual_cell_trusting(case)
+        self.dual_cell_trusting(case)?;
+        self.slabs_trusting(case)
     }
+}
+
+/// A slab exponent, mostly one that is accepted.
+fn some_exponent(random: &mut Random) -> u32 {
+    let some = random.below(17) as u32;
+    or_edge(some, random)
 }
 
 /// A tree for a case: noise, sound, or nearly sound.
@@ -473,6 +518,10 @@ pub fn dual_cell(case: &mut Case) -> Checked {
     of_tree(case, Given::dual_cell)
 }
 
+pub fn slabs(case: &mut Case) -> Checked {
+    of_tree(case, Given::slabs)
+}
+
 pub fn look_up_trusting(case: &mut Case) -> Checked {
     of_tree(case, Given::look_up_trusting)
 }
@@ -487,4 +536,8 @@ pub fn cells_trusting(case: &mut Case) -> Checked {
 
 pub fn dual_cell_trusting(case: &mut Case) -> Checked {
     of_tree(case, Given::dual_cell_trusting)
+}
+
+pub fn slabs_trusting(case: &mut Case) -> Checked {
+    of_tree(case, Given::slabs_trusting)
 }

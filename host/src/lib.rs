@@ -9,6 +9,7 @@
 
 use std::error::Error;
 use std::fmt;
+use std::ops::RangeInclusive;
 
 /// The functions as C declares them: they take every value, and a refusal, returned as its number, leaves every out parameter,
 /// state and table as it was. A `&mut`, or the pointer of a slice with its length, is all that a pointer has to be there, so each
@@ -125,7 +126,21 @@ pub mod raw {
             cell_places: &mut [u64; 8],
             tried: &mut u32,
         ) -> u32;
-        pub fn mittenhelm_slab(vertex: u64, level: u32, exponent: u32, slab: &mut u32) -> u32;
+        pub fn mittenhelm_slabs(
+            keys: *const u64,
+            keys_length: u64,
+            distances: *const f32,
+            distances_length: u64,
+            firsts: *const u16,
+            firsts_length: u64,
+            leaves: *const u64,
+            leaves_length: u64,
+            vertex: u64,
+            level: u32,
+            exponent: u32,
+            first: &mut u32,
+            last: &mut u32,
+        ) -> u32;
         pub fn mittenhelm_look_up_trusting(
             keys: *const u64,
             keys_length: u64,
@@ -177,6 +192,17 @@ pub mod raw {
             cell_distances: &mut [f32; 8],
             cell_places: &mut [u64; 8],
             tried: &mut u32,
+        ) -> u32;
+        pub fn mittenhelm_slabs_trusting(
+            keys: *const u64,
+            keys_length: u64,
+            firsts: *const u16,
+            firsts_length: u64,
+            vertex: u64,
+            level: u32,
+            exponent: u32,
+            first: &mut u32,
+            last: &mut u32,
         ) -> u32;
     }
 }
@@ -516,6 +542,13 @@ fn around(dual_cell: impl FnOnce(&mut [u64; 8], &mut [f32; 8], &mut [u64; 8], &m
     accepted(number, cell)
 }
 
+/// What a call for slabs answers that is handed its out parameters.
+fn reached(slabs: impl FnOnce(&mut u32, &mut u32) -> u32) -> Result<RangeInclusive<u32>, Refusal> {
+    let (mut first, mut last) = (0, 0);
+    let number = slabs(&mut first, &mut last);
+    accepted(number, first..=last)
+}
+
 /// No tree of so many nodes has more vertices: each split adds at most the middles of its cell, of six faces and of twelve edges.
 pub fn most_vertices(nodes: usize) -> usize {
     19 * (nodes.saturating_sub(1) / 8)
@@ -561,6 +594,16 @@ impl<'a> Tree<'a> {
         around(|keys, distances, places, tried| {
             with_tree!(mittenhelm_dual_cell, self, vertex, level, keys, distances, places, tried)
         })
+    }
+
+    /// The slabs that the dual cell of an inner vertex at a level reaches, of 2^exponent slabs (0 to 15) along z: from that of the
+    /// lowest of its eight nodes' centres to that of the highest. A host prints the cell in each of them, and needs its nodes that long.
+    ///
+    /// An example: of the tree with the keys 1, 8, 9, .., 15 the vertex in the middle of the cube, at level 1, has nodes with their
+    /// centres at the heights 1/4 and 3/4. Of two slabs its cell reaches 0 and 1, of four 1 to 3.
+    #[inline]
+    pub fn slabs(&self, vertex: u64, level: u32, exponent: u32) -> Result<RangeInclusive<u32>, Refusal> {
+        reached(|first, last| with_tree!(mittenhelm_slabs, self, vertex, level, exponent, first, last))
     }
 }
 
@@ -612,13 +655,14 @@ impl<'a> SoundTree<'a> {
             with_nodes!(mittenhelm_dual_cell_trusting, self.tree, vertex, level, keys, distances, places, tried)
         })
     }
-}
 
-/// The slab of the dual cell of an inner vertex at a level, among 2^exponent slabs (0 to 15) along z.
-pub fn slab(vertex: u64, level: u32, exponent: u32) -> Result<u32, Refusal> {
-    let mut slab = 0;
-    let number = unsafe { raw::mittenhelm_slab(vertex, level, exponent, &mut slab) };
-    accepted(number, slab)
+    /// As `Tree::slabs`, without a check of the tree.
+    #[inline]
+    pub fn slabs(&self, vertex: u64, level: u32, exponent: u32) -> Result<RangeInclusive<u32>, Refusal> {
+        reached(|first, last| {
+            with_tables!(mittenhelm_slabs_trusting, self.tree, [keys, firsts], vertex, level, exponent, first, last)
+        })
+    }
 }
 
 #[cfg(test)]

@@ -1,7 +1,7 @@
 //! The header as a C and as a C++ compiler read it, with the archive linked to the programs of tests/c: one that uses every
 //! function, and one that takes a part from its distance field to its dual cells, whose totals are the model's.
 
-use oracle_answers::model::reading::{slab, Lookup, Reading, Tables};
+use oracle_answers::model::reading::{Lookup, Reading, Slabs, Tables};
 use oracle_answers::model::{add, centre, child};
 use oracle_answers::trees::Tree;
 use std::env;
@@ -117,7 +117,8 @@ fn totals(bound: u32, exponent: u32) -> String {
         let resins = cell.places.map(|place| resin(&tables, place));
         resins.iter().for_each(|&resin| of_resin[resin] += 1);
         seams += usize::from(resins.contains(&1) && resins.contains(&2));
-        cells_in_slab[slab(vertex, level, exponent).expect("a listed vertex") as usize] += 1;
+        let Slabs { first, last } = reading.slabs(vertex, level, exponent).expect("a listed vertex");
+        (first..=last).for_each(|slab| cells_in_slab[slab as usize] += 1);
     }
     let mut text = format!("{} nodes, {} leaves, {} vertices\n", tables.keys.len(), tables.leaves.len(), vertices.len());
     text += &format!("{tried} keys tried, {outside} entries outside, keys {keys}, places {places}\n");
@@ -126,7 +127,7 @@ fn totals(bound: u32, exponent: u32) -> String {
     text += &format!("{none} entries without resin, {soft} soft, {stiff} stiff; {seams} cells at a seam\n");
     text += &format!("column {}\n", column(&tables, &reading, bound));
     for (slab, cells) in cells_in_slab.iter().enumerate() {
-        writeln!(text, "slab {slab}: {cells} cells").expect("a String takes all that is written");
+        writeln!(text, "slab {slab}: {cells} cells reach it").expect("a String takes all that is written");
     }
     text
 }

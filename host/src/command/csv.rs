@@ -16,16 +16,25 @@ pub struct Table {
     rows: fn(&Cut, &Reading) -> Result<Vec<String>, Refusal>,
 }
 
-/// A vertex is written in hexadecimal, since a spreadsheet would round so great a number. Places stand last, so that the columns before
-/// them are those of earlier tables.
+/// A vertex is written in hexadecimal, since a spreadsheet would round so great a number.
 pub const TABLES: [Table; 4] = [
-    Table { name: "slabs", about: "each slab, empty ones too", columns: "slab,low,high,cells,crossed", rows: slabs },
+    Table {
+        name: "slabs",
+        about: "each slab, with the number of cells that reach it, 0 too",
+        columns: "slab,low,high,cells,crossed",
+        rows: slabs,
+    },
     Table { name: "leaves", about: "each leaf, with its centre", columns: "key,level,x,y,z,half,distance,place", rows: leaves },
-    Table { name: "vertices", about: "each vertex", columns: "vertex,level,x,y,z,slab", rows: vertices },
+    Table {
+        name: "vertices",
+        about: "each vertex, with the slabs that its cell reaches",
+        columns: "vertex,level,x,y,z,first,last",
+        rows: vertices,
+    },
     Table {
         name: "cells",
         about: "each dual cell, with its eight nodes, in the order told below",
-        columns: "vertex,level,slab,crossed,tried,key0..7,distance0..7,place0..7",
+        columns: "vertex,level,first,last,crossed,tried,key0..7,distance0..7,place0..7",
         rows: cells,
     },
 ];
@@ -73,16 +82,20 @@ fn leaves(_: &Cut, reading: &Reading) -> Result<Vec<String>, Refusal> {
 }
 
 fn vertices(_: &Cut, reading: &Reading) -> Result<Vec<String>, Refusal> {
-    let row = |cell: &Cell| Ok(format!("{:#x},{},{},{}", cell.vertex, cell.level, joined(&cell.point()?), cell.slab));
+    let row = |cell: &Cell| {
+        let Cell { vertex, level, slabs, .. } = cell;
+        Ok(format!("{vertex:#x},{level},{},{},{}", joined(&cell.point()?), slabs.start(), slabs.end()))
+    };
     reading.cells.iter().map(row).collect()
 }
 
 fn cells(_: &Cut, reading: &Reading) -> Result<Vec<String>, Refusal> {
     let row = |cell: &Cell| {
-        let Cell { vertex, level, slab, dual } = cell;
+        let Cell { vertex, level, slabs, dual } = cell;
+        let (first, last) = (slabs.start(), slabs.end());
         let (crossed, tried) = (u8::from(cell.is_crossed()), dual.tried);
         let nodes = [joined(&dual.keys), joined(&dual.distances), joined(&dual.places)];
-        format!("{vertex:#x},{level},{slab},{crossed},{tried},{}", joined(&nodes))
+        format!("{vertex:#x},{level},{first},{last},{crossed},{tried},{}", joined(&nodes))
     };
     Ok(reading.cells.iter().map(row).collect())
 }

@@ -9,7 +9,7 @@ use super::sample::USUAL_POINTS;
 
 pub fn page() -> String {
     let parts: String = BUILT_INS.iter().map(|part| format!("  {:<11} {}\n", part.name, part.about)).collect();
-    let table = |name, about, columns| format!("  {name:<11} {about}:\n              {columns}\n");
+    let table = |name, about, columns| format!("  {name:<11} {about}:\n      {columns}\n");
     let tables: String = TABLES.iter().map(|each| table(each.name, each.about, each.columns)).collect();
     let (least, most) = (POINTS.start(), POINTS.end());
     let usual_slabs = 1 << USUAL_EXPONENT;
@@ -22,7 +22,7 @@ usage: mittenhelm slice PART [--bound N] [--exponent N] [--nodes N]
 
 slice builds the octree over a part, answering one asked distance after another,
 checks the tree, lists its vertices and gets the dual cell of each. It reports
-what there is, what memory that took, and how many cells each slab has.
+what there is, what memory that took, and how many cells reach each slab.
   --bound N   split no cell of level N: 0 to {MOST_BOUND}, default {USUAL_BOUND};
               below {LEAST_BOUND} it is as {LEAST_BOUND}
   --exponent N
@@ -31,8 +31,9 @@ what there is, what memory that took, and how many cells each slab has.
   --nodes N   lend room for N nodes: 1 to {MOST_NODES}, default {MOST_NODES}; for leaves and
               in the queue there are (7N + 1) / 8 places
   --csv TABLE print a table for programs, not the report
-  --svg FILE  draw a slab: the leaves that its middle plane cuts, y upwards, and
-              the vertices of its cells
+  --svg FILE  draw a slab: the leaves that its middle plane cuts, y upwards; the
+              vertices of the cells that reach it; and marks on the leaves of
+              those cells, dashed on such as the plane doesn't cut
   --slab K    the slab that is drawn, from 0 on, default the middle one
 
 sample writes a part as a grid file, to FILE or to standard output.
@@ -55,6 +56,11 @@ interpolated trilinearly.
 TABLE is one of these. A row with the columns' names goes first, then there is a
 row for
 {tables}
+A cell reaches from the lowest of its eight node centres to the highest: `first`
+and `last` are the slabs that hold these two heights. It counts in both and in
+all between, so the numbers of all slabs may add up to more than there are. In
+the report, slabs in a row that have the same numbers are one line.
+
 A cell is crossed if the part's surface goes through it: of its eight distances
 some are below 0 and some aren't. Fractions have as many decimals as f32 needs.
 A place is where a node stands among all nodes, which ascend by their keys; the

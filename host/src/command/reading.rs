@@ -1,9 +1,10 @@
-//! What is read from a finished tree: its leaves, its vertices, and the dual cell and slab of each.
+//! What is read from a finished tree: its leaves, its vertices, and the dual cell of each with the slabs that it reaches.
 
 use super::fault::Fault;
 use super::fields::Point;
 use super::progress::Progress;
 use mittenhelm::{DualCell, Refusal, SoundTree, Tree};
+use std::ops::RangeInclusive;
 
 #[derive(Clone, Copy)]
 pub struct Leaf {
@@ -19,12 +20,13 @@ pub struct Leaf {
 pub struct Cell {
     pub vertex: u64,
     pub level: u32,
-    pub slab: u32,
+    /// The slabs that it reaches.
+    pub slabs: RangeInclusive<u32>,
     pub dual: DualCell,
 }
 
-/// How many dual cells a slab has, and how many of them the surface goes through.
-#[derive(Clone, Copy, Default)]
+/// How many dual cells there are, or reach a slab, and how many of them the surface goes through.
+#[derive(Clone, Copy, Default, PartialEq, Eq)]
 pub struct Count {
     pub cells: usize,
     pub crossed: usize,
@@ -52,35 +54,40 @@ impl Reading {
         }
         let mut slabs = vec![Count::default(); 1 << exponent];
         for cell in &cells {
-            slabs[cell.slab as usize].add(cell);
+            let is_crossed = cell.is_crossed();
+            cell.slabs.clone().for_each(|slab| slabs[slab as usize].add(is_crossed));
         }
         Ok(Reading { nodes: tree.keys.len(), leaves: leaves(tree)?, cells, slabs, list_places })
     }
 
     pub fn together(&self) -> Count {
         let mut count = Count::default();
-        self.cells.iter().for_each(|cell| count.add(cell));
+        self.cells.iter().for_each(|cell| count.add(cell.is_crossed()));
         count
     }
 }
 
 impl Count {
-    fn add(&mut self, cell: &Cell) {
+    fn add(&mut self, is_crossed: bool) {
         self.cells += 1;
-        self.crossed += usize::from(cell.is_crossed());
+        self.crossed += usize::from(is_crossed);
     }
 }
 
 impl Cell {
     fn of(tree: &SoundTree, vertex: u64, level: u32, exponent: u32) -> Result<Self, Refusal> {
-        let slab = mittenhelm::slab(vertex, level, exponent)?;
-        Ok(Cell { vertex, level, slab, dual: tree.dual_cell(vertex, level)? })
+        let slabs = tree.slabs(vertex, level, exponent)?;
+        Ok(Cell { vertex, level, slabs, dual: tree.dual_cell(vertex, level)? })
     }
 
     /// Whether the part's surface goes through: some of its nodes are inside, and some aren't.
     pub fn is_crossed(&self) -> bool {
         let inside = self.dual.distances.iter().filter(|&&distance| distance < 0.0).count();
         (1..8).contains(&inside)
+    }
+
+    pub fn reaches(&self, slab: u32) -> bool {
+        self.slabs.contains(&slab)
     }
 
     /// Where the vertex lies: it is the low corner of the cell of level 21 whose key it is.

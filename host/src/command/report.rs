@@ -54,14 +54,16 @@ fn memory(page: &mut String, tables: &[Table]) -> fmt::Result {
     writeln!(page, "{:<15} {:>6}  {:>6}  {bytes:>6} of {PRINTER} (256 KiB), {percent} %", "together", "", "")
 }
 
+/// A cell is in the line of each slab that it reaches. So nearly every slab has some, but slabs much finer than the cells have as many as
+/// the next one: those that follow one another with the same numbers are one line.
 fn slabs(page: &mut String, cut: &Cut, slabs: &[Count]) -> fmt::Result {
-    writeln!(page, "\n{:<14} {:>7} {:>9} {:>6}  {:>7}", "slab", "z from", "to", "cells", "crossed")?;
+    writeln!(page, "\na cell counts in each slab that it reaches, from its lowest node centre to its highest")?;
+    writeln!(page, "{:<14} {:>7} {:>9} {:>6}  {:>7}", "slab", "z from", "to", "cells", "crossed")?;
     let most = slabs.iter().map(|count| count.cells).max().unwrap_or(0);
     let mut first = 0;
     while first < slabs.len() {
-        // Empty slabs that follow one another are one line.
-        let empty = slabs[first..].iter().take_while(|count| count.cells == 0).count();
-        let last = first + empty.max(1) - 1;
+        let same = slabs[first..].iter().take_while(|&&count| count == slabs[first]).count();
+        let last = first + same - 1;
         line(page, cut, first, last, slabs[first], most)?;
         first = last + 1;
     }

@@ -1,4 +1,4 @@
-/* A part from its distance field to its dual cells and their slabs, as a printer's firmware does it: static tables, no heap. It prints the
+/* A part from its distance field to its dual cells and the slabs that they reach, as a printer's firmware does it: static tables, no heap. It prints the
  * part in two resins, and keeps which in a table of its own beside the nodes. Written in the language that C and C++ share. It prints its
  * totals, and exits 0 if all that it was given is as the header says. */
 #include "expect.h"
@@ -68,6 +68,15 @@ static uint8_t resin_of(uint64_t key, float distance)
 
     expect(mittenhelm_centre(key, &x, &y, &z) == MITTENHELM_ACCEPTED, "centre");
     return distance > 0 ? NO_RESIN : z < 0.5f ? SOFT : STIFF;
+}
+
+/* The slab of a cell's centre. A vertex is the key of a cell of level 21 above it, which lies in the same slab. */
+static uint32_t slab_at(uint64_t key)
+{
+    float x = 0, y = 0, z = 0;
+
+    expect(mittenhelm_centre(key, &x, &y, &z) == MITTENHELM_ACCEPTED, "centre");
+    return (uint32_t)(z * SLABS);
 }
 
 /* Once the build is finished each node keeps its place, and so its resin is written there. */
@@ -162,6 +171,29 @@ struct totals {
     uint32_t tried, outside, of_resin[RESINS], seams;
 };
 
+/* Counts a dual cell in every slab that it reaches: its nodes are needed as long. Who trusts the tree has had it checked. By the centres,
+ * whose heights a float holds, the lowest node is in the first of them and the highest in the last. */
+static void add_slabs(uint64_t vertex, uint32_t level, const uint64_t *cell_keys)
+{
+    uint32_t first = 0, last = 0, lowest = SLABS, highest = 0, side, slab;
+
+    if (mittenhelm_slabs_trusting(keys, nodes, firsts, nodes, vertex, level, SLAB_EXPONENT, &first, &last) != MITTENHELM_ACCEPTED
+        || first > last || last >= SLABS) {
+        expect(false, "every vertex has a cell that reaches slabs");
+        return;
+    }
+    for (side = 0; side < 8; side++) {
+        slab = slab_at(cell_keys[side]);
+        lowest = slab < lowest ? slab : lowest;
+        highest = slab > highest ? slab : highest;
+    }
+    expect(first == lowest && last == highest, "a cell reaches from its lowest node's centre to its highest");
+    slab = slab_at(vertex);
+    expect(first <= slab && slab <= last, "a listed cell reaches the slab of its vertex");
+    for (slab = first; slab <= last; slab++)
+        cells_in_slab[slab]++;
+}
+
 /* Counts a dual cell's nodes by their resins. At a seam both resins meet. */
 static void add_resins(const uint64_t *cell_places, struct totals *totals)
 {
@@ -181,11 +213,10 @@ static void add_cell(uint64_t vertex, uint32_t level, struct totals *totals)
 {
     uint64_t cell_keys[8], cell_places[8];
     float cell_distances[8];
-    uint32_t tried = 0, slab = 0, side;
+    uint32_t tried = 0, side;
 
-    if (mittenhelm_dual_cell(TREE, vertex, level, cell_keys, cell_distances, cell_places, &tried) != MITTENHELM_ACCEPTED
-        || mittenhelm_slab(vertex, level, SLAB_EXPONENT, &slab) != MITTENHELM_ACCEPTED || slab >= SLABS) {
-        expect(false, "every vertex has a dual cell and a slab");
+    if (mittenhelm_dual_cell(TREE, vertex, level, cell_keys, cell_distances, cell_places, &tried) != MITTENHELM_ACCEPTED) {
+        expect(false, "every vertex has a dual cell");
         return;
     }
     for (side = 0; side < 8; side++) {
@@ -196,7 +227,7 @@ static void add_cell(uint64_t vertex, uint32_t level, struct totals *totals)
     }
     add_resins(cell_places, totals);
     totals->tried += tried;
-    cells_in_slab[slab]++;
+    add_slabs(vertex, level, cell_keys);
 }
 
 /* What is cured in the part's middle, from the lowest cell of the bound's level to the highest, by a lookup of each: soft is -, stiff #. */
@@ -234,7 +265,7 @@ int main(void)
         add_cell(vertices[i], levels[i], &totals);
     for (slab = 0; slab < SLABS; slab++)
         cells += cells_in_slab[slab];
-    expect(cells == count, "every cell lies in one slab");
+    expect(cells > count, "every cell reaches a slab, and some reach several");
 
     printf("%lu nodes, %lu leaves, %lu vertices\n", (unsigned long)nodes, (unsigned long)leaf_count, (unsigned long)count);
     printf("%lu keys tried, %lu entries outside, keys %llu, places %llu\n", (unsigned long)totals.tried,
@@ -243,6 +274,6 @@ int main(void)
         (unsigned long)totals.of_resin[SOFT], (unsigned long)totals.of_resin[STIFF], (unsigned long)totals.seams);
     print_column();
     for (slab = 0; slab < SLABS; slab++)
-        printf("slab %lu: %lu cells\n", (unsigned long)slab, (unsigned long)cells_in_slab[slab]);
+        printf("slab %lu: %lu cells reach it\n", (unsigned long)slab, (unsigned long)cells_in_slab[slab]);
     return wrong;
 }

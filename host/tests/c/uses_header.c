@@ -138,9 +138,10 @@ static void read_nine(uint64_t middle)
     const uint64_t nine[9] = {1, 8, 9, 10, 11, 12, 13, 14, 15}, eight[8] = {8, 9, 10, 11, 12, 13, 14, 15};
     const float nine_distances[9] = {0, 1, 2, 3, 4, 5, 6, 7, 8};
     const uint16_t nine_firsts[9] = {1, 0, 0, 0, 0, 0, 0, 0, 0};
+    const uint32_t firsts_of_exponents[4] = {0, 0, 1, 2}, lasts_of_exponents[4] = {0, 1, 3, 6};
     uint64_t cell_keys[8], cell_places[8], vertex = 5;
     float cell_distances[8], x = 5, y = 5, z = 5;
-    uint32_t tried = 5, entry;
+    uint32_t tried = 5, entry, exponent, first = 5, last = 7;
 
     expect(mittenhelm_dual_cell(nine, 9, nine_distances, 9, nine_firsts, 9, eight, 8, middle, 1, cell_keys, cell_distances,
         cell_places, &tried) == MITTENHELM_ACCEPTED && tried == 8, "dual_cell of nine nodes");
@@ -154,6 +155,20 @@ static void read_nine(uint64_t middle)
         "entry 0 lies above on all axes");
     expect(mittenhelm_centre(cell_keys[7], &x, &y, &z) == MITTENHELM_ACCEPTED && x < 0.5f && y < 0.5f && z < 0.5f,
         "entry 7 lies below on all axes");
+
+    /* The centres are at the heights 1/4 and 3/4. */
+    for (exponent = 0; exponent < 4; exponent++) {
+        first = 5;
+        last = 7;
+        expect(mittenhelm_slabs(nine, 9, nine_distances, 9, nine_firsts, 9, eight, 8, middle, 1, exponent, &first, &last)
+            == MITTENHELM_ACCEPTED, "slabs of nine nodes");
+        expect(first == firsts_of_exponents[exponent] && last == lasts_of_exponents[exponent], "from 1/4 to 3/4");
+        first = 5;
+        last = 7;
+        expect(mittenhelm_slabs_trusting(nine, 9, nine_firsts, 9, middle, 1, exponent, &first, &last) == MITTENHELM_ACCEPTED,
+            "slabs_trusting of nine nodes");
+        expect(first == firsts_of_exponents[exponent] && last == lasts_of_exponents[exponent], "from 1/4 to 3/4 of a trusted tree");
+    }
 }
 
 static void set_all(uint64_t *places, uint64_t number)
@@ -188,13 +203,41 @@ static void expect_sides(uint64_t vertex, const uint64_t *cell_keys, const float
     }
 }
 
+/* The slabs of cells in the tree that the last build left: refusals in their order, which leave both numbers as they are. */
+static void read_slabs(uint64_t middle)
+{
+    uint32_t first = 5, last = 7;
+
+    expect(mittenhelm_slabs(NODES, leaves, 63, 71, 2, 16, &first, &last) == MITTENHELM_NOT_SOUND, "slabs without a leaf");
+    expect(mittenhelm_slabs(NODES, leaves, 63, middle, 2, 16, &first, &last) == MITTENHELM_NOT_SOUND,
+        "an unsound tree goes before an exponent of 16");
+    expect(mittenhelm_slabs(TREE, 71, 2, 15, &first, &last) == MITTENHELM_NOT_A_VERTEX, "slabs of no vertex");
+    expect(mittenhelm_slabs(TREE, 71, 2, 16, &first, &last) == MITTENHELM_NOT_A_VERTEX,
+        "no vertex goes before an exponent of 16");
+    expect(mittenhelm_slabs(TREE, middle, 2, 16, &first, &last) == MITTENHELM_ABOVE_FIFTEEN, "a slab exponent of 16");
+    expect(mittenhelm_slabs_trusting(CELLS, 71, 2, 16, &first, &last) == MITTENHELM_NOT_A_VERTEX, "trust and no vertex");
+    expect(mittenhelm_slabs_trusting(keys, 1, firsts, 1, middle, 2, 16, &first, &last) == MITTENHELM_NOT_A_VERTEX,
+        "slabs_trusting of the root alone");
+    expect(mittenhelm_slabs_trusting(CELLS, middle, 2, 16, &first, &last) == MITTENHELM_ABOVE_FIFTEEN, "trust and an exponent of 16");
+    expect(first == 5 && last == 7, "refused slabs");
+
+    /* The centres are at the heights 3/8 and 5/8. */
+    expect(mittenhelm_slabs(TREE, middle, 2, 2, &first, &last) == MITTENHELM_ACCEPTED && first == 1 && last == 2, "slabs");
+    expect(mittenhelm_slabs(TREE, middle, 2, 15, &first, &last) == MITTENHELM_ACCEPTED && first == 3 << 12 && last == 5 << 12,
+        "slabs of the greatest exponent");
+    expect(mittenhelm_slabs_trusting(CELLS, middle, 2, 3, &first, &last) == MITTENHELM_ACCEPTED && first == 3 && last == 5,
+        "slabs_trusting");
+    expect(mittenhelm_slabs_trusting(keys, 73, firsts, 0, middle, 2, 3, &first, &last) == MITTENHELM_ACCEPTED && first == 4
+        && last == 4, "without a way down all is at 1/2");
+}
+
 /* Reads the tree that the last build left. Its distances are 1 for the root, then 2, 3 and so on, 73 for the last cell. */
 static void read_tree(uint64_t middle)
 {
     uint64_t vertices[30], cell_keys[8], cell_places[8], found = 5, place = 5, count = 5;
     float cell_distances[8], distance = 5;
     uint8_t levels[30];
-    uint32_t tried = 5, slab = 5;
+    uint32_t tried = 5;
     int i;
 
     expect(mittenhelm_sound(TREE), "sound");
@@ -273,9 +316,7 @@ static void read_tree(uint64_t middle)
 
     read_cells(vertices + 3);
     list_in_one_pass();
-
-    expect(mittenhelm_slab(middle, 2, 15, &slab) == MITTENHELM_ACCEPTED && slab == 1 << 14, "slab");
-    expect(mittenhelm_slab(middle, 2, 16, &slab) == MITTENHELM_ABOVE_FIFTEEN && slab == 1 << 14, "a slab exponent of 16");
+    read_slabs(middle);
 }
 
 int main(void)

@@ -1,4 +1,5 @@
-//! The picture of a slab: well-formed, with exactly the leaves that the plane cuts, and the vertices of the slab.
+//! The picture of a slab: well-formed, with exactly the leaves that the plane cuts, the vertices of the cells that reach the slab, and
+//! marks on the leaves of those cells.
 
 use crate::fields::BUILT_INS;
 use crate::run::{file, grid, numbers, one_line, printed, saved, slice, table};
@@ -73,32 +74,76 @@ fn on_grid(value: f64) -> u32 {
     (value * FINEST) as u32
 }
 
-/// The squares of a picture, and its dots, measured by its frame.
-fn seen(elements: &[Element]) -> (Vec<Square>, BTreeSet<(u32, u32, bool)>) {
+/// What is marked or has a dot: a square without its sign, and a place with whether a cell there is crossed.
+type Outline = (u32, u32, u32);
+type Dot = (u32, u32, bool);
+
+/// What a picture shows.
+struct Shown {
+    squares: Vec<Square>,
+    /// Strong outlines, and dashed ones.
+    cut: Vec<Outline>,
+    uncut: Vec<Outline>,
+    dots: BTreeSet<Dot>,
+}
+
+/// The squares of a picture, its outlines and its dots, measured by its frame.
+fn shown(elements: &[Element]) -> Shown {
     let frame = elements.iter().find(|e| e.attributes.get("id").map(String::as_str) == Some("frame")).expect("a frame");
     let [left, top, side] = ["x", "y", "width"].map(|name| frame.number(name));
     assert_eq!(frame.number("height"), side);
     let (across, up) = (|x: f64| on_grid((x - left) / side), |y: f64| on_grid(1.0 - (y - top) / side));
-    let sign = |group: &str| ["inside", "zero", "outside"].into_iter().find(|sign| *sign == group);
-    let square = |e: &Element| {
-        let (sign, width) = (sign(&e.group)?, e.number("width"));
-        assert_eq!(e.number("height"), width);
+    // So many widths of its line a rectangle is drawn inside the square that it stands for.
+    let outline = |e: &Element, inside: f64| {
+        let inside = if inside > 0.0 { inside * e.number("stroke-width") } else { 0.0 };
+        let width = e.number("width") + 2.0 * inside;
+        assert_eq!(e.number("height"), e.number("width"));
         // The low side in y is the far one in the picture.
-        Some((across(e.number("x")), up(e.number("y") + width), on_grid(width / side), sign))
+        (across(e.number("x") - inside), up(e.number("y") - inside + width), on_grid(width / side))
     };
-    let squares = elements.iter().filter(|e| e.name == "rect").filter_map(square).collect();
+    let rectangles = |group: &'static str| elements.iter().filter(move |e| e.name == "rect" && e.group == group);
+    let squares = |sign| rectangles(sign).map(move |e| (outline(e, 0.0), sign)).map(|((x, y, side), sign)| (x, y, side, sign));
+    assert!(rectangles("cut").all(|e| !e.attributes.contains_key("stroke-dasharray")));
+    assert!(rectangles("uncut").all(|e| e.attributes.contains_key("stroke-dasharray")));
     let dot = |e: &Element| (across(e.number("cx")), up(e.number("cy")), e.group == "crossed");
     let dots = elements.iter().filter(|e| e.name == "circle" && ["crossed", "uncrossed"].contains(&e.group.as_str())).map(dot);
-    (squares, dots.collect())
+    Shown {
+        squares: SIGNS.into_iter().flat_map(squares).collect(),
+        cut: rectangles("cut").map(|e| outline(e, 0.5)).collect(),
+        uncut: rectangles("uncut").map(|e| outline(e, 3.0)).collect(),
+        dots: dots.collect(),
+    }
+}
+
+const SIGNS: [&str; 3] = ["inside", "zero", "outside"];
+
+/// The groups in the order in which they are drawn, each with its fill: what comes later lies above.
+fn assert_layers(elements: &[Element]) {
+    let groups = elements.iter().filter(|e| e.name == "g").map(|e| (e.attributes["id"].as_str(), e.attributes["fill"] == "none"));
+    let unfilled = |id| ["cut", "uncut"].contains(&id);
+    let expected = SIGNS.into_iter().chain(["cut", "uncut", "uncrossed", "crossed"]).map(|id| (id, unfilled(id)));
+    assert!(groups.eq(expected), "the groups aren't drawn in their order");
 }
 
 /// The same from the tables.
-fn expected(part: &str, options: &[&str], slabs: u32, slab: u32) -> (BTreeSet<Square>, BTreeSet<(u32, u32, bool)>) {
+fn expected(part: &str, options: &[&str], slabs: u32, slab: u32) -> Shown {
     let height = (slab as f64 + 0.5) / slabs as f64;
-    let mut squares = BTreeSet::new();
-    for leaf in table(part, options, "leaves") {
-        let leaf = numbers(&leaf, 2);
+    // Where vertices hide one another, that of a crossed cell is seen.
+    let (mut dots, mut keys) = (BTreeMap::new(), BTreeSet::new());
+    for (vertex, cell) in table(part, options, "vertices").iter().zip(table(part, options, "cells")) {
+        assert_eq!((&vertex[0], &vertex[5..]), (&cell[0], &cell[2..4]));
+        let [first, last] = [&cell[2], &cell[3]].map(|slab| slab.parse::<u32>().expect("a slab"));
+        if (first..=last).contains(&slab) {
+            let place = numbers(vertex, 2);
+            *dots.entry((on_grid(place[0]), on_grid(place[1]))).or_insert(false) |= cell[4] == "1";
+            keys.extend(cell[6..14].iter().cloned());
+        }
+    }
+    let (mut squares, mut cut, mut uncut) = (Vec::new(), Vec::new(), BTreeSet::new());
+    for row in table(part, options, "leaves") {
+        let leaf = numbers(&row, 2);
         let ([x, y, z], half, distance) = ([leaf[0], leaf[1], leaf[2]], leaf[3], leaf[4]);
+        let (x, y, side) = (on_grid(x - half), on_grid(y - half), on_grid(2.0 * half));
         let sign = if distance < 0.0 {
             "inside"
         } else if distance > 0.0 {
@@ -106,20 +151,24 @@ fn expected(part: &str, options: &[&str], slabs: u32, slab: u32) -> (BTreeSet<Sq
         } else {
             "zero"
         };
-        if z - half <= height && height < z + half {
-            squares.insert((on_grid(x - half), on_grid(y - half), on_grid(2.0 * half), sign));
+        match (z - half <= height && height < z + half, keys.remove(&row[0])) {
+            (true, is_marked) => {
+                squares.push((x, y, side, sign));
+                cut.extend(Some((x, y, side)).filter(|_| is_marked));
+            }
+            (false, true) => drop(uncut.insert((x, y, side))),
+            (false, false) => {}
         }
     }
-    // Where vertices hide one another, that of a crossed cell is seen.
-    let mut dots = BTreeMap::new();
-    for (vertex, cell) in table(part, options, "vertices").iter().zip(table(part, options, "cells")) {
-        assert_eq!(vertex[0], cell[0]);
-        if cell[2] == slab.to_string() {
-            let place = numbers(vertex, 2);
-            *dots.entry((on_grid(place[0]), on_grid(place[1]))).or_insert(false) |= cell[3] == "1";
-        }
-    }
-    (squares, dots.into_iter().map(|((x, y), crossed)| (x, y, crossed)).collect())
+    assert!(keys.is_empty(), "cells have what is no leaf: {keys:?}");
+    let dots = dots.into_iter().map(|((x, y), crossed)| (x, y, crossed)).collect();
+    Shown { squares, cut, uncut: uncut.into_iter().collect(), dots }
+}
+
+fn sorted<T: Ord + Copy>(items: &[T]) -> Vec<T> {
+    let mut items = items.to_vec();
+    items.sort_unstable();
+    items
 }
 
 /// Every place of the square lies in exactly one.
@@ -132,8 +181,8 @@ fn assert_tiles(squares: &[Square]) {
     }
 }
 
-/// Draws a slab, the middle one where none is named, and hands on its squares.
-fn check(name: &str, part: &str, bound: u32, exponent: u32, slab: Option<u32>) -> Vec<Square> {
+/// Draws a slab, the middle one where none is named, and hands on what is shown.
+fn check(name: &str, part: &str, bound: u32, exponent: u32, slab: Option<u32>) -> Shown {
     let slabs = 1 << exponent;
     let path = file(&format!("{name}.svg"));
     let (svg, bound, exponent) = (path.to_str().expect("plain text"), bound.to_string(), exponent.to_string());
@@ -145,31 +194,58 @@ fn check(name: &str, part: &str, bound: u32, exponent: u32, slab: Option<u32>) -
     assert!(report.contains(&format!("\npicture   {svg}: slab {chosen}\n")), "{report}");
 
     let document = fs::read_to_string(&path).expect("a picture");
-    let (squares, dots) = seen(&elements(&document));
-    let (expected_squares, expected_dots) = expected(part, &options, slabs, chosen);
-    assert_tiles(&squares);
-    assert_eq!(squares.iter().copied().collect::<BTreeSet<Square>>(), expected_squares);
-    assert_eq!(dots, expected_dots);
+    let elements = elements(&document);
+    let (shown, expected) = (shown(&elements), expected(part, &options, slabs, chosen));
+    assert_layers(&elements);
+    assert_tiles(&shown.squares);
+    assert_eq!(sorted(&shown.squares), sorted(&expected.squares));
+    assert_eq!(sorted(&shown.cut), sorted(&expected.cut));
+    assert_eq!(sorted(&shown.uncut), sorted(&expected.uncut));
+    assert_eq!(shown.dots, expected.dots);
     assert!(document.contains(&format!("slab {chosen} (of 0 to {})", slabs - 1)), "{document}");
-    squares
+    let row = &table(part, &options, "slabs")[chosen as usize];
+    let words = format!(">bound {bound}; {} dual cells reach the slab, of which the surface crosses {}<", row[3], row[4]);
+    assert!(document.contains(&words), "{document}");
+    shown
 }
 
 #[test]
 fn of_built_in_parts() {
     let mut signs = BTreeSet::new();
     for part in &BUILT_INS {
-        let squares = check(part.name, part.name, 4, 4, None);
-        signs.extend(squares.iter().map(|square| square.3));
+        let shown = check(part.name, part.name, 4, 4, None);
+        signs.extend(shown.squares.iter().map(|square| square.3));
+        // Far inside the cube the cells on both sides of the plane have all leaves that it cuts.
+        assert!(shown.cut.len() == shown.squares.len() && !shown.uncut.is_empty() && !shown.dots.is_empty());
     }
     assert_eq!(signs.into_iter().collect::<Vec<_>>(), ["inside", "outside"]);
 }
 
-/// The first and the last slab, a single one, and planes that go between cells or through the smallest of them.
+/// The first and the last slab, which no cell reaches where they lie below or above all centres, a single one, and planes that go between
+/// cells or through the smallest of them.
 #[test]
 fn of_any_slab() {
-    for (exponent, slab) in [(0, None), (1, Some(0)), (1, Some(1)), (4, Some(0)), (4, Some(15)), (15, None), (15, Some(32767))] {
-        check("any-slab", "bracket", 3, exponent, slab);
+    for (exponent, slab, is_reached) in [
+        (0, None, true),
+        (1, Some(0), true),
+        (1, Some(1), true),
+        (4, Some(0), false),
+        (4, Some(15), true),
+        (5, Some(31), false),
+        (15, None, true),
+        (15, Some(32767), false),
+    ] {
+        let shown = check("any-slab", "bracket", 3, exponent, slab);
+        let is_empty = [shown.cut.is_empty(), shown.uncut.is_empty(), shown.dots.is_empty()];
+        assert_eq!(is_empty, [!is_reached; 3], "exponent {exponent}, slab {slab:?}");
     }
+}
+
+/// The lowest slab of a part, which cells of some columns reach: the leaves of the others are plain.
+#[test]
+fn of_some_leaves_of_a_plane() {
+    let shown = check("some-leaves", "sphere", 4, 4, Some(0));
+    assert_eq!([shown.squares.len(), shown.cut.len(), shown.uncut.len()], [88, 68, 48]);
 }
 
 /// A deep tree around a point on the cube's edge: squares of every size that there can be.
@@ -177,7 +253,7 @@ fn of_any_slab() {
 fn of_a_deep_tree() {
     let field = |[x, y, z]: [u32; 3]| 0.4 * ((x as f32 / 4.0 - 0.25).abs() + y as f32 + z as f32);
     let path = saved("deep.grid", &grid([5, 2, 2], field));
-    let squares = check("deep", &path, 15, 15, Some(0));
+    let squares = check("deep", &path, 15, 15, Some(0)).squares;
     let sides: BTreeSet<u32> = squares.iter().map(|square| square.2).collect();
     assert_eq!(sides.into_iter().collect::<Vec<u32>>(), (0..14).map(|power| 1 << power).collect::<Vec<u32>>());
 }
@@ -186,7 +262,7 @@ fn of_a_deep_tree() {
 #[test]
 fn of_zeros() {
     let path = saved("a <b> & \"c\"'s.grid", &grid([2, 2, 2], |_| 0.0));
-    let squares = check("zeros", &path, 3, 2, None);
+    let squares = check("zeros", &path, 3, 2, None).squares;
     assert_eq!(squares.len(), 64);
     assert!(squares.iter().all(|square| square.3 == "zero"));
     let document = fs::read_to_string(file("zeros.svg")).expect("a picture");

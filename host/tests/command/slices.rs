@@ -2,7 +2,7 @@
 
 use crate::fields::{BuiltIn, BUILT_INS};
 use crate::run::{numbers, printed, slice, table};
-use oracle_answers::model::reading::{slab, DualCell, Reading};
+use oracle_answers::model::reading::{DualCell, Reading, Slabs};
 use oracle_answers::model::{centre, half_size, level};
 use oracle_answers::trees::Tree;
 use std::fmt::Display;
@@ -27,12 +27,18 @@ impl Expected {
         dual.distances.iter().any(inside) && !dual.distances.iter().all(inside)
     }
 
-    /// For each slab, how many cells it has, and how many of them are crossed.
+    fn reached(dual: &DualCell, exponent: u32) -> Slabs {
+        dual.reach().slabs(exponent).expect("an exponent up to 15")
+    }
+
+    /// For each slab, how many cells reach it, and how many of them are crossed.
     fn slabs(&self, exponent: u32) -> Vec<[usize; 2]> {
         let mut slabs = vec![[0; 2]; 1 << exponent];
-        for (vertex, level, dual) in &self.cells {
-            let count = &mut slabs[slab(*vertex, *level, exponent).expect("an inner vertex") as usize];
-            *count = [count[0] + 1, count[1] + usize::from(Expected::is_crossed(dual))];
+        for (_, _, dual) in &self.cells {
+            let (Slabs { first, last }, crossed) = (Expected::reached(dual, exponent), Expected::is_crossed(dual));
+            for count in &mut slabs[first as usize..=last as usize] {
+                *count = [count[0] + 1, count[1] + usize::from(crossed)];
+            }
         }
         slabs
     }
@@ -48,12 +54,12 @@ impl Expected {
     }
 
     fn vertices_table(&self, exponent: u32) -> String {
-        let mut text = "vertex,level,x,y,z,slab\n".to_string();
-        for &(vertex, level, _) in &self.cells {
+        let mut text = "vertex,level,x,y,z,first,last\n".to_string();
+        for &(vertex, level, dual) in &self.cells {
             // It is the low corner of the cell whose key it is.
             let (centre, half) = (centre(vertex).expect("a cell of level 21"), half_size(vertex).expect("the same"));
-            let slab = slab(vertex, level, exponent).expect("an inner vertex");
-            text += &format!("{vertex:#x},{level},{},{slab}\n", joined(&centre.map(|middle| middle - half)));
+            let Slabs { first, last } = Expected::reached(&dual, exponent);
+            text += &format!("{vertex:#x},{level},{},{first},{last}\n", joined(&centre.map(|middle| middle - half)));
         }
         text
     }
@@ -61,11 +67,11 @@ impl Expected {
     fn cells_table(&self, exponent: u32) -> String {
         let eight = |name: &str| joined(&[0, 1, 2, 3, 4, 5, 6, 7].map(|i| format!("{name}{i}")));
         let nodes = ["key", "distance", "place"].map(eight);
-        let mut text = format!("vertex,level,slab,crossed,tried,{}\n", joined(&nodes));
+        let mut text = format!("vertex,level,first,last,crossed,tried,{}\n", joined(&nodes));
         for (vertex, level, dual) in &self.cells {
-            let slab = slab(*vertex, *level, exponent).expect("an inner vertex");
+            let Slabs { first, last } = Expected::reached(dual, exponent);
             let (crossed, distances) = (u8::from(Expected::is_crossed(dual)), dual.distances.map(f32::from_bits));
-            text += &format!("{vertex:#x},{level},{slab},{crossed},{},", dual.tried);
+            text += &format!("{vertex:#x},{level},{first},{last},{crossed},{},", dual.tried);
             text += &format!("{},{},{}\n", joined(&dual.keys), joined(&distances), joined(&dual.places));
         }
         text
@@ -119,21 +125,23 @@ fn check_slabs(report: &str, table: &[Vec<String>], expected: &[[usize; 2]]) {
         assert_eq!(numbers(row, 0), [slab as f64, share(slab), share(slab + 1), *cells as f64, *crossed as f64]);
     }
 
+    assert!(
+        report.contains("\na cell counts in each slab that it reaches, from its lowest node centre to its highest\nslab "),
+        "{report}"
+    );
     let mut next = 0;
-    let mut was_empty = false;
     for line in section(report, "slab ") {
         let words: Vec<&str> = line.split_whitespace().filter(|word| *word != "to" && !word.starts_with('#')).collect();
         let words: Vec<f64> = words.iter().map(|word| word.parse().unwrap_or_else(|_| panic!("{line}"))).collect();
-        // One slab, or the first and the last of some empty ones.
+        // One slab, or the first and the last of some that have the same numbers.
         let (slabs, rest) = words.split_at(words.len() - 4);
         let (first, last) = (slabs[0] as usize, slabs[slabs.len() - 1] as usize);
         assert_eq!(first, next, "{line}");
         assert!((rest[0] - share(first)).abs() <= 5e-6 && (rest[1] - share(last + 1)).abs() <= 5e-6, "{line}");
         assert!(expected[first..=last].iter().all(|count| count.map(|n| n as f64)[..] == rest[2..]), "{line}");
-        assert!(first == last || rest[2] == 0.0, "{line}");
         assert_eq!(line.contains('#'), rest[2] > 0.0, "{line}");
-        assert!(!(was_empty && rest[2] == 0.0), "two lines for what one could say: {report}");
-        was_empty = rest[2] == 0.0;
+        let same_before = first > 0 && expected[first] == expected[first - 1];
+        assert!(!same_before, "two lines for what one could say: {report}");
         next = last + 1;
     }
     assert_eq!(next, expected.len(), "{report}");
@@ -166,11 +174,13 @@ fn check_memory(report: &str, nodes: usize, expected: &Expected) {
     assert_eq!(words, ["together", &together.to_string(), "of", "262144"], "{report}");
 }
 
-/// Many slabs, most of them empty, are few lines; other room is told as it is.
+/// Many slabs, most of them as the next one, are few lines; other room is told as it is.
 #[test]
 fn of_many_slabs_and_little_room() {
     let part = &BUILT_INS[0];
     let expected = Expected::new(part, 3);
+    // A cell reaches many of them, so that they have more together than there are.
+    assert!(expected.slabs(9).iter().map(|count| count[0]).sum::<usize>() > 20 * expected.cells.len());
     for exponent in [9, 15] {
         let power = exponent.to_string();
         let options = ["--bound", "3", "--exponent", &power, "--nodes", "600"];

@@ -3,11 +3,11 @@
 
 use mittenhelm::raw::{
     mittenhelm_cells_trusting, mittenhelm_dual_cell, mittenhelm_dual_cell_trusting, mittenhelm_list, mittenhelm_list_trusting,
-    mittenhelm_look_up, mittenhelm_look_up_trusting, mittenhelm_slab, mittenhelm_sound,
+    mittenhelm_look_up, mittenhelm_look_up_trusting, mittenhelm_slabs, mittenhelm_slabs_trusting, mittenhelm_sound,
 };
 use oracle_answers::inputs::Random;
 use oracle_answers::lent::{levels_before, one_nan, places_before, vertices_before, Fenced};
-use oracle_answers::model::reading::{self, Descent, DualCell, Lookup, Reading, Tables, Walk};
+use oracle_answers::model::reading::{self, Descent, DualCell, Lookup, Reading, Slabs, Tables, Walk};
 use oracle_answers::model::{level, Answer};
 use oracle_answers::questions;
 use std::cell::RefCell;
@@ -19,6 +19,7 @@ const UNTOUCHED: u64 = 0xdead_beef_0bad_cafe;
 const UNTOUCHED_FLOAT: u32 = 0xc2f6_e979;
 const UNTOUCHED_PLACE: u64 = 0x0bad_cafe_dead_beef;
 const UNTOUCHED_COUNT: u32 = 0x7fc1_2345;
+const UNTOUCHED_SLABS: [u32; 2] = [0xdead_beef, 0x0bad_cafe];
 
 /// How often each answer was seen.
 #[derive(Debug, Default)]
@@ -39,7 +40,7 @@ pub struct Seen {
     pub all_placed: u64,
     pub some_placed: u64,
     pub none_placed: u64,
-    /// Slabs by exponent.
+    /// Cells with their slabs, by exponent.
     pub slabs: [u64; 16],
     /// What was told of trees that aren't sound.
     pub trusted: Trusted,
@@ -59,15 +60,19 @@ pub struct Trusted {
     /// Dual cells: with all eight entries or none, since the way down comes to all children of the root or to none.
     pub whole_cells: u64,
     pub empty_cells: u64,
+    /// The slabs of such cells.
+    pub whole_slabs: u64,
+    pub empty_slabs: u64,
 }
 
 impl Trusted {
-    /// Asserts that every kind of answer was seen so often, and of the refusals 1, 4 and 12 alone.
+    /// Asserts that every kind of answer was seen so often, and of the refusals 1, 4, 5 and 12 alone.
     pub fn assert_every_answer(&self, times: u64) {
-        let Trusted { refused, itself, ancestor, nothing, lists, empty_lists, whole_cells, empty_cells } = self;
-        let answers = [itself, ancestor, nothing, lists, empty_lists, whole_cells, empty_cells];
-        assert!(answers.iter().all(|&&seen| seen >= times), "{self:?}");
-        assert_refused(refused, times, &[1, 4, 12], self);
+        let Trusted { refused, itself, ancestor, nothing, lists, empty_lists, .. } = self;
+        let Trusted { whole_cells, empty_cells, whole_slabs, empty_slabs, .. } = self;
+        let found = [itself, ancestor, nothing, lists, empty_lists, whole_cells, empty_cells, whole_slabs, empty_slabs];
+        assert!(found.iter().all(|&&seen| seen >= times), "{self:?}");
+        assert_refused(refused, times, &[1, 4, 5, 12], self);
     }
 
     fn count_lookup(&mut self, asked: u64, answer: Answer<Lookup>) {
@@ -93,6 +98,14 @@ impl Trusted {
             Ok(8) => &mut self.whole_cells,
             Ok(0) => &mut self.empty_cells,
             Ok(some) => panic!("{some} of eight entries"),
+            Err(number) => &mut self.refused[number as usize],
+        } += 1;
+    }
+
+    fn count_slabs(&mut self, answer: Answer<Slabs>, is_empty: bool) {
+        *match answer {
+            Ok(_) if is_empty => &mut self.empty_slabs,
+            Ok(_) => &mut self.whole_slabs,
             Err(number) => &mut self.refused[number as usize],
         } += 1;
     }
@@ -426,6 +439,41 @@ impl Given {
         placed.len()
     }
 
+    /// Both calls for slabs, of which the trusting one answers an unsound tree too.
+    pub fn slabs(&self, vertex: u64, level: u32, exponent: u32, seen: &mut Seen) -> Answer<Slabs> {
+        let expected = self.reading.slabs(vertex, level, exponent);
+        let trusting = self.descent.slabs_trusting(vertex, level, exponent);
+        let call = format!("slabs({vertex:#x}, {level}, {exponent})");
+        self.agree(&self.ask_slabs(vertex, level, exponent), &out_of(expected), &call);
+        self.agree(&self.ask_slabs_trusting(vertex, level, exponent), &out_of(trusting), format_args!("trusting {call}"));
+        if self.reading.is_sound() {
+            assert_eq!(trusting, expected, "{}: the ways down in a sound tree", self.told(&call));
+        } else {
+            let is_empty = matches!(self.descent.dual_cell_trusting(vertex, level), Ok(cell) if cell.keys == [0; 8]);
+            seen.trusted.count_slabs(trusting, is_empty);
+        }
+        match expected {
+            Ok(_) => seen.slabs[exponent as usize] += 1,
+            refused => seen.count_refusal(refused),
+        }
+        expected
+    }
+
+    /// The number that the call for slabs returns, and what the out parameters then hold. It is quick: the tree's tables aren't looked at.
+    pub fn ask_slabs(&self, vertex: u64, level: u32, exponent: u32) -> (u32, [u32; 2]) {
+        let [mut first, mut last] = UNTOUCHED_SLABS;
+        let number = with_tree!(mittenhelm_slabs, self, vertex, level, exponent, &mut first, &mut last);
+        (number, [first, last])
+    }
+
+    /// The same of the call that trusts the tree.
+    pub fn ask_slabs_trusting(&self, vertex: u64, level: u32, exponent: u32) -> (u32, [u32; 2]) {
+        let [mut first, mut last] = UNTOUCHED_SLABS;
+        let number =
+            with_tables!(mittenhelm_slabs_trusting, self, [keys, firsts], vertex, level, exponent, &mut first, &mut last);
+        (number, [first, last])
+    }
+
     /// Each call once, with parameters of all kinds. Of an unsound tree those that check it tell nothing, whatever else is wrong.
     pub fn every_call(&self, random: &mut Random, seen: &mut Seen) {
         self.sound(seen);
@@ -433,6 +481,7 @@ impl Given {
         let _ = self.list(random.below(3) as usize, [[0, 2000][random.below(2) as usize]; 2], seen);
         let (vertex, level) = random.vertex_and_level();
         let _ = self.dual_cell(vertex, level, seen);
+        let _ = self.slabs(vertex, level, random.below(18) as u32, seen);
     }
 
     fn agree<T: PartialEq + Debug>(&self, ours: &T, model: &T, call: impl Display) {
@@ -460,15 +509,7 @@ impl Given {
     }
 }
 
-pub fn slab(vertex: u64, level: u32, exponent: u32, seen: &mut Seen) -> Answer<u32> {
-    let expected = reading::slab(vertex, level, exponent);
-    let mut slab = UNTOUCHED_COUNT;
-    let number = unsafe { mittenhelm_slab(vertex, level, exponent, &mut slab) };
-    let expected_out = expected.map_or_else(|number| (number, UNTOUCHED_COUNT), |slab| (0, slab));
-    assert_eq!((number, slab), expected_out, "slab({vertex:#x}, {level}, {exponent}): ours and the model's");
-    match expected {
-        Ok(_) => seen.slabs[exponent as usize] += 1,
-        refused => seen.count_refusal(refused),
-    }
-    expected
+/// The number that a call for slabs has to return, and what its out parameters have to hold.
+pub fn out_of(slabs: Answer<Slabs>) -> (u32, [u32; 2]) {
+    slabs.map_or_else(|number| (number, UNTOUCHED_SLABS), |Slabs { first, last }| (0, [first, last]))
 }

@@ -1,7 +1,7 @@
 //! Document 01's examples of reading, and the safe functions as a host uses them.
 
 use crate::calls::Given;
-use mittenhelm::{distance, most_vertices, slab, start, DualCell, Lookup, State, Tables, Tree, STATE_WORDS};
+use mittenhelm::{distance, most_vertices, start, DualCell, Lookup, State, Tables, Tree, STATE_WORDS};
 use oracle_answers::fields::cell_at;
 use oracle_answers::inputs::Random;
 use oracle_answers::model::reading::{self, Reading};
@@ -104,15 +104,18 @@ fn a_dual_cell_of_the_finest_level() {
     assert_eq!(cell.places, [80, 79, 78, 77, 76, 75, 74, 73]);
 }
 
+/// The root and its eight children.
+const NINE: Tree = Tree {
+    keys: &[1, 8, 9, 10, 11, 12, 13, 14, 15],
+    distances: &[0.0, 0.5, 1.0, 1.5, 2.0, 2.5, 3.0, 3.5, 4.0],
+    firsts: &[1, 0, 0, 0, 0, 0, 0, 0, 0],
+    leaves: &[8, 9, 10, 11, 12, 13, 14, 15],
+};
+
 /// The example of the header and of `DualCell`: which of the eight entries is which.
 #[test]
 fn the_middle_of_nine_nodes() {
-    let tree = Tree {
-        keys: &[1, 8, 9, 10, 11, 12, 13, 14, 15],
-        distances: &[0.0, 0.5, 1.0, 1.5, 2.0, 2.5, 3.0, 3.5, 4.0],
-        firsts: &[1, 0, 0, 0, 0, 0, 0, 0, 0],
-        leaves: &[8, 9, 10, 11, 12, 13, 14, 15],
-    };
+    let tree = NINE;
     let expected = DualCell {
         keys: [15, 14, 13, 12, 11, 10, 9, 8],
         distances: [4.0, 3.5, 3.0, 2.5, 2.0, 1.5, 1.0, 0.5],
@@ -125,6 +128,27 @@ fn the_middle_of_nine_nodes() {
         assert_eq!(mittenhelm::vertex(key, 1, corner), Ok(MIDDLE), "entry {corner}");
     }
     assert_eq!(mittenhelm::centre(15), Ok([0.75; 3]));
+}
+
+/// The example of the header and of `Tree::slabs`: centres at the heights 1/4 and 3/4.
+#[test]
+fn slabs_of_the_middle_of_nine_nodes() {
+    let checked = NINE.checked().expect("a sound tree");
+    for (exponent, slabs) in [(0, 0..=0), (1, 0..=1), (2, 1..=3), (3, 2..=6), (15, 8192..=24576)] {
+        assert_eq!(NINE.slabs(MIDDLE, 1, exponent), Ok(slabs.clone()), "exponent {exponent}");
+        assert_eq!(checked.slabs(MIDDLE, 1, exponent), Ok(slabs), "exponent {exponent}");
+    }
+    let reached: Vec<u32> = checked.slabs(MIDDLE, 1, 2).expect("an inner vertex").collect();
+    assert_eq!(reached, [1, 2, 3]);
+}
+
+/// A cell of two levels: the corner of cell 519 of level 3 that lies in the middle of the cube's lowest eighth.
+#[test]
+fn slabs_of_two_levels() {
+    let corner = mittenhelm::vertex(519, 3, 7).expect("a cell key with its own level");
+    let slabs = |exponent| Built::new(3, at_64).read(|tree| tree.slabs(corner, 3, exponent));
+    // The centre of 65, 66 and 67 is at 1/8, that of 519 at 3/16, and that of 68 to 71 at 3/8.
+    assert_eq!([0, 1, 2, 3, 4].map(slabs), [0..=0, 0..=0, 0..=1, 1..=3, 2..=6].map(Ok));
 }
 
 /// The same dual cells by the text, whose tree of this field is another one: the integer build's.
@@ -181,8 +205,12 @@ fn refusals_in_words() {
         told(root.dual_cell(MIDDLE, 1).map(|_| ())),
         "refused 4: not an inner vertex at that level, or the tree is the root alone"
     );
-    assert_eq!(told(slab(MIDDLE, 1, 16).map(|_| ())), "refused 5: bound or slab exponent above 15");
-    assert_eq!(slab(MIDDLE, 1, 15), Ok(1 << 14));
+    assert_eq!(
+        told(root.slabs(MIDDLE, 1, 16).map(|_| ())),
+        "refused 4: not an inner vertex at that level, or the tree is the root alone"
+    );
+    assert_eq!(told(NINE.slabs(MIDDLE, 1, 16).map(|_| ())), "refused 5: bound or slab exponent above 15");
+    assert_eq!(told(none.slabs(MIDDLE, 1, 16).map(|_| ())), "refused 11: not a sound tree");
 }
 
 /// A state that isn't of these tables gives no tree.
@@ -239,7 +267,9 @@ fn wrappers() {
             assert_eq!(tree.dual_cell(vertex, level).map_err(number), expected);
             assert_eq!(checked.and_then(|tree| tree.dual_cell(vertex, level)).map_err(number), expected);
             let exponent = random.below(18) as u32;
-            assert_eq!(slab(vertex, level, exponent).map_err(number), reading::slab(vertex, level, exponent));
+            let expected = model.slabs(vertex, level, exponent).map(|slabs| slabs.first..=slabs.last);
+            assert_eq!(tree.slabs(vertex, level, exponent).map_err(number), expected);
+            assert_eq!(checked.and_then(|tree| tree.slabs(vertex, level, exponent)).map_err(number), expected);
         }
         let (start, lengths) = (random.below(4) as usize, [random.below(600), random.below(600)].map(|length| length as usize));
         let (mut vertices, mut levels) = (vec![7; lengths[0]], vec![7; lengths[1]]);

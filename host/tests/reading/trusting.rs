@@ -79,6 +79,7 @@ fn any_tables() {
             }
             let (vertex, level) = random.vertex_and_level();
             let _ = given.dual_cell(vertex, level, &mut seen);
+            let _ = given.slabs(vertex, level, random.below(18) as u32, &mut seen);
         }
         let (count, start) = (given.walked().len(), random.below(3) as usize);
         let mut length = || (start + count + random.below(3) as usize).saturating_sub(1);

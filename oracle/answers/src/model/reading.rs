@@ -1,11 +1,8 @@
-//! Document 01, "Reading a finished tree", condition by condition over sets and maps; the way down by first children and the walk that
-//! finds the vertices, on any tables; and what the program `counts` prints.
+//! Document 01, "Reading a finished tree", condition by condition over sets and maps, with the slabs of document 02; the way down by
+//! first children and the walk that finds the vertices, on any tables; and what the program `counts` prints.
 
 use super::build::{self, STATE_WORDS, TABLES};
-use super::{
-    cell, coordinates, corner_bit, every_third_bit, is_cell, is_finite, is_inner, level, power_of_8, side, vertex, Answer,
-    DEEPEST,
-};
+use super::{cell, coordinates, corner_bit, is_cell, is_finite, is_inner, level, power_of_8, side, vertex, Answer, DEEPEST};
 use std::collections::BTreeMap;
 
 /// A tree as it is given, sound or not. Distances are bits here, so that two NaNs can be told apart.
@@ -34,6 +31,27 @@ pub struct DualCell {
     pub distances: [u32; 8],
     pub places: [u64; 8],
     pub tried: u32,
+}
+
+/// A height in the cube, as a fraction of whole numbers.
+#[derive(Clone, Copy, Debug, PartialEq, Eq)]
+pub struct Height {
+    pub above: u64,
+    pub below: u64,
+}
+
+/// From where to where a cell reaches: the lowest and the highest of its eight node centres.
+#[derive(Clone, Copy, Debug, PartialEq, Eq)]
+pub struct Reach {
+    pub lowest: Height,
+    pub highest: Height,
+}
+
+/// The first and the last slab of a cell.
+#[derive(Clone, Copy, Debug, PartialEq, Eq)]
+pub struct Slabs {
+    pub first: u32,
+    pub last: u32,
 }
 
 /// A vertex with its level, and the places of the eight nodes round it, in the order of a dual cell.
@@ -168,6 +186,54 @@ impl Reading {
         assert!(cell.keys.iter().all(|&key| key != 0), "all of level 1 is present");
         Ok(cell)
     }
+
+    pub fn slabs(&self, vertex: u64, level: u32, exponent: u32) -> Answer<Slabs> {
+        self.dual_cell(vertex, level)?.reach().slabs(exponent)
+    }
+}
+
+impl Height {
+    /// That of a node's centre: (2c + 1) / 2^(l+1), for a key of level l with the z coordinate c. Where nothing was found, key and level
+    /// are 0, and so is the coordinate.
+    pub fn of_centre(key: u64) -> Self {
+        let level = level(key);
+        let [_, _, z] = coordinates(key, level);
+        Height { above: 2 * z + 1, below: 2u64.pow(level + 1) }
+    }
+
+    pub fn is_below(self, other: Self) -> bool {
+        self.above * other.below < other.above * self.below
+    }
+
+    /// The slab that it lies in: the height times 2^s, rounded down.
+    fn slab(self, exponent: u32) -> u32 {
+        (self.above * 2u64.pow(exponent) / self.below) as u32
+    }
+}
+
+impl DualCell {
+    pub fn reach(&self) -> Reach {
+        let heights = self.keys.map(Height::of_centre);
+        let mut reach = Reach { lowest: heights[0], highest: heights[0] };
+        for height in heights {
+            if height.is_below(reach.lowest) {
+                reach.lowest = height;
+            }
+            if reach.highest.is_below(height) {
+                reach.highest = height;
+            }
+        }
+        reach
+    }
+}
+
+impl Reach {
+    pub fn slabs(&self, exponent: u32) -> Answer<Slabs> {
+        if exponent > GREATEST_EXPONENT {
+            return Err(5);
+        }
+        Ok(Slabs { first: self.lowest.slab(exponent), last: self.highest.slab(exponent) })
+    }
 }
 
 /// Writes a list of vertices with their levels from a start place on, where both tables have room. The answer is their number.
@@ -286,6 +352,10 @@ impl Descent {
         Ok(around(vertex, level, |side| self.find(side)))
     }
 
+    pub fn slabs_trusting(&self, vertex: u64, level: u32, exponent: u32) -> Answer<Slabs> {
+        self.dual_cell_trusting(vertex, level)?.reach().slabs(exponent)
+    }
+
     /// The node over the cell that is lower on the axes of a corner's bits; none outside the cube.
     fn entry(&self, level: u32, of: u64, corner: u32) -> Option<(u64, usize)> {
         let mut at = coordinates(of, level);
@@ -339,17 +409,6 @@ impl Sound {
         }
         Lookup::Nothing { tried: level(asked) }
     }
-}
-
-/// z of the vertex at level 21, divided by 2^(21-s), rounded down.
-pub fn slab(vertex: u64, level: u32, exponent: u32) -> Answer<u32> {
-    if !is_inner(vertex, level) {
-        return Err(4);
-    }
-    if exponent > GREATEST_EXPONENT {
-        return Err(5);
-    }
-    Ok((every_third_bit(vertex, 2, 21) / 2u64.pow(21 - exponent)) as u32)
 }
 
 /// The length of each table of `counts`.

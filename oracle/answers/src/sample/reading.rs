@@ -9,18 +9,18 @@
 //! | 13 list | lengths | start | both lengths | count | | |
 //! | 14 listed | place | | | vertex | level | |
 //! | 15 dual_cell | lengths | vertex | level, entry | key of the entry | its distance | keys tried for all eight, place |
-//! | 16 slab | vertex | level | exponent | slab | | |
+//! | 16 slabs | lengths | vertex | level, exponent | first | last | |
 //!
 //! Put writes one place of keys, distances, first children and leaves; the place and that of the first child have 16 bits each, and the
-//! distance stands in A's high half, as the entry does in C's and the place of what was found in Z's. Lengths are those of keys,
-//! distances, first children and leaves in 16 bits each from the lowest on. A list line sets every place of a vertex table and a level
-//! table of 1,024 to 0, and lends as many as C says, 16 bits each; a listed line tells what then stands at a place of both. A lookup
-//! that answers nothing has key, distance and place 0.
+//! distance stands in A's high half, as the entry and the exponent do in C's and the place of what was found in Z's. Lengths are those
+//! of keys, distances, first children and leaves in 16 bits each from the lowest on. A list line sets every place of a vertex table and a
+//! level table of 1,024 to 0, and lends as many as C says, 16 bits each; a listed line tells what then stands at a place of both. A
+//! lookup that answers nothing has key, distance and place 0.
 
 use super::lines::{packed, Sample};
 use crate::inputs::{first_cell, last_cell, BROKEN_DISTANCES, GREATEST_DISTANCES};
 use crate::integer;
-use crate::model::reading::{slab, Lookup, Reading, Tables};
+use crate::model::reading::{Lookup, Reading, Slabs, Tables};
 use crate::model::{level, vertex};
 use crate::trees::of_splits;
 
@@ -30,7 +30,7 @@ const LOOK_UP: u8 = 0x12;
 const LIST: u8 = 0x13;
 const LISTED: u8 = 0x14;
 const DUAL_CELL: u8 = 0x15;
-const SLAB: u8 = 0x16;
+const SLABS: u8 = 0x16;
 
 /// The places of the vertex table and of the level table, lent or not.
 const IN_ALL: usize = 1024;
@@ -186,16 +186,38 @@ impl Sample {
         answer.is_ok()
     }
 
-    fn slab(&mut self, vertex: u64, level: u32, exponent: u32) {
-        let answer = slab(vertex, level, exponent).map(|slab| [slab as u64, 0, 0]);
-        self.line(SLAB, [vertex, level as u64, exponent as u64], answer);
+    /// Slabs of a cell. The text has no such call, but finds the eight nodes, and says where their centres are.
+    fn slabs(&mut self, put: &Put, vertex: u64, level: u32, exponent: u32) -> bool {
+        let answer = put.reading().slabs(vertex, level, exponent);
+        if let Ok(Slabs { first, last }) = answer {
+            let tables = put.lent();
+            let nodes = integer::search_eight_nodes(&tables.keys, &tables.leaves, &[(vertex, level as usize)]);
+            let height = |place: Option<usize>| integer::center(tables.keys[place.expect("the text finds a node")])[2];
+            let slabs = nodes[0].map(|place| (height(place) * 2f32.powi(exponent as i32)) as u32);
+            let least_and_greatest = (slabs.iter().copied().min(), slabs.iter().copied().max());
+            assert_eq!(least_and_greatest, (Some(first), Some(last)), "the text and the model differ");
+        }
+        let results = answer.map(|Slabs { first, last }| [first as u64, last as u64, 0]);
+        self.line(SLABS, [put.packed(), vertex, level as u64 | (exponent as u64) << 32], results);
+        answer.is_ok()
+    }
+
+    /// Slabs of a cell by exponents around those of a node of its level, whose centre lies on a multiple of 2^-(level + 1); then above 15.
+    fn slabs_of_every_kind(&mut self, put: &Put, vertex: u64, level: u32) {
+        let mut exponents = vec![0, 1, level, level + 1, level + 2, 15];
+        exponents.retain(|&exponent| exponent <= 15);
+        exponents.sort_unstable();
+        exponents.dedup();
+        for exponent in exponents {
+            assert!(self.slabs(put, vertex, level, exponent));
+        }
+        assert!(!self.slabs(put, vertex, level, 16) && !self.slabs(put, vertex, level, u32::MAX));
     }
 
     pub(super) fn reading(&mut self) {
         self.least_trees();
         self.example_of_81();
         self.deepest_tree();
-        self.slabs();
     }
 
     /// The root alone, which has no vertex and no dual cell, and nine nodes, which no build makes.
@@ -219,6 +241,7 @@ impl Sample {
             self.look_up(&other, 16);
             self.list(&other, 9, [0, 0], [].into_iter());
             self.dual_cell(&other, MIDDLE, 0, [0].into_iter());
+            self.slabs(&other, MIDDLE, 0, 16);
         }
         for key in [1, 8, 64, first_cell(21), last_cell(21), 0, 16] {
             self.look_up(&root, key);
@@ -226,6 +249,7 @@ impl Sample {
         assert!(self.list(&root, 0, [0, 0], 0..1) && self.list(&root, 2, [2, 3], 1..4));
         assert!(!self.list(&root, 3, [2, 3], [].into_iter()) && !self.list(&root, usize::MAX, [9, 9], [].into_iter()));
         assert!(!self.dual_cell(&root, MIDDLE, 1, [0, 7].into_iter()));
+        assert!(!self.slabs(&root, MIDDLE, 1, 0) && !self.slabs(&root, MIDDLE, 1, 16) && !self.slabs(&root, 0, 1, 15));
 
         let nine = self.put(tree(&[1]));
         assert!(self.sound(&nine));
@@ -240,6 +264,15 @@ impl Sample {
         self.list_in_one_pass(&nine, 2);
         assert!(self.dual_cell(&nine, MIDDLE, 1, 0..8) && self.dual_cell(&nine, MIDDLE, 20, [0, 7].into_iter()));
         assert!(!self.dual_cell(&nine, MIDDLE, 21, [0].into_iter()) && !self.dual_cell(&nine, 1 << 63, 1, [0].into_iter()));
+        self.slabs_of_every_kind(&nine, MIDDLE, 1);
+        // The same nodes by way of a finer level; one node for all, with the vertex in its middle or elsewhere.
+        self.slabs_of_every_kind(&nine, MIDDLE, 20);
+        for (vertex, level) in [(71 << 57, 2), (519 << 54, 3), (last_cell(20) << 3, 20)] {
+            assert!(self.slabs(&nine, vertex, level, 3) && self.slabs(&nine, vertex, level, 15));
+        }
+        for (vertex, level) in [(MIDDLE, 0), (MIDDLE, 21), (1 << 63, 1), (last_cell(20) << 3, 19), (0, 1)] {
+            assert!(!self.slabs(&nine, vertex, level, 15) && !self.slabs(&nine, vertex, level, 16));
+        }
         // Each condition of a sound tree at one place.
         for (place, key, leaf) in
             [(0, 0, 8), (0, 2, 8), (1, 7, 8), (1, 8, 1), (1, 8, 10), (3, 9, 10), (3, 11, 10), (8, 16, 15), (8, 120, 15)]
@@ -269,6 +302,7 @@ impl Sample {
         assert!(!self.sound(&changed));
         self.look_up(&changed, 64);
         assert!(!self.list(&changed, 0, [0, 0], [].into_iter()) && !self.dual_cell(&changed, MIDDLE, 1, [0].into_iter()));
+        assert!(!self.slabs(&changed, MIDDLE, 1, 16));
         self.put_at(put, place);
     }
 
@@ -299,6 +333,11 @@ impl Sample {
             assert!(self.dual_cell(&put, vertex, level, 0..8));
         }
         assert!(!self.dual_cell(&put, corner(512, 7), 2, [0, 7].into_iter()));
+        // Cells of one level and of two; then, at a level at which nothing lists it, one with a split node.
+        for (vertex, level) in [(corner(519, 7), 3), (corner(512, 7), 3), (corner(65, 6), 2), (MIDDLE, 1)] {
+            self.slabs_of_every_kind(&put, vertex, level);
+        }
+        assert!(!self.slabs(&put, corner(512, 7), 2, 0) && !self.slabs(&put, corner(512, 7), 2, 16));
         for key in [64, 512, 519, 65, 520, 8 * 519 + 3, 1, 9, 127, last_cell(20), first_cell(20), 128] {
             self.look_up(&put, key);
         }
@@ -337,6 +376,12 @@ impl Sample {
             assert!(self.dual_cell(&put, vertex, level, [0, 3, 7].into_iter()));
             self.dual_cell(&put, vertex, 20, [5].into_iter());
         }
+        // The finest nodes, whose centres lie between the finest slabs' sides.
+        for &(vertex, level) in listed.iter().filter(|&&(_, level)| level == 15).step_by(6) {
+            for exponent in [0, 7, 14, 15] {
+                assert!(self.slabs(&put, vertex, level, exponent) && self.slabs(&put, vertex, 20, exponent));
+            }
+        }
         let mut split = above(end);
         split.push(end);
         let deeper = Put::whole(tree(&split));
@@ -349,18 +394,5 @@ impl Sample {
         }
         assert!(!self.sound(&deeper));
         self.look_up(&deeper, end);
-    }
-
-    fn slabs(&mut self) {
-        let highest = last_cell(20) << 3;
-        for (vertex, level) in [(MIDDLE, 1), (highest, 20), (vertex(71, 2, 0).expect("a cell"), 2), (MIDDLE, 20)] {
-            for exponent in [0, 1, 2, 7, 14, 15, 16, u32::MAX] {
-                self.slab(vertex, level, exponent);
-            }
-        }
-        for (vertex, level) in [(MIDDLE, 0), (MIDDLE, 21), (1 << 63, 1), (highest, 19), (0, 1)] {
-            self.slab(vertex, level, 15);
-            self.slab(vertex, level, 16);
-        }
     }
 }
