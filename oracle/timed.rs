@@ -43,10 +43,31 @@ of_the_text! {
         linear_hashed_marching_cubes::sum_of_dual_cells(&octree.0, vertices.0)
     }
 
+    /// Searches the eight nodes of each vertex, and takes the lowest and the highest of their centres: the sum of what the two slabs
+    /// are for, of so many.
+    fn slabs(octree: &Octree, vertices: &Vertices, count: f32, told: fn(u64, u32, u32) -> u64) -> u64 {
+        let cells = vertices.0.iter().map(|(&vertex, &level)| {
+            let heights = [0, 1, 2, 3, 4, 5, 6, 7].map(|which| found(octree, vertex.dual_vertex(level, which)).center().z);
+            let lowest = heights.iter().cloned().fold(f32::INFINITY, f32::min);
+            let highest = heights.iter().cloned().fold(0.0, f32::max);
+            told(number(vertex), (lowest * count) as u32, (highest * count) as u32)
+        });
+        cells.fold(0, u64::wrapping_add)
+    }
+
     /// Looks up each key as the search for eight nodes does; the sum of the keys found and of the bits of their distances.
     fn look_ups(octree: &Octree, keys: &[u64]) -> u64 {
         keys.iter().fold(0, |sum, &key| sum.wrapping_add(climb(octree, Morton::with_key(key))))
     }
+}
+
+/// The node over a key that the search for eight nodes finds.
+#[cfg(published_text)]
+fn found(octree: &Octree, mut key: Morton) -> Morton {
+    while key > Morton::new() && octree.0.get_node(&key).is_none() {
+        key = key.parent();
+    }
+    key
 }
 
 #[cfg(published_text)]

@@ -1,7 +1,7 @@
 //! What is measured of a tree, on each side.
 
 use crate::answers::Answers;
-use crate::ours::{look_ups, Batch, Building, Finished, Listing};
+use crate::ours::{look_ups, told, Batch, Building, Finished, Listing, EXPONENT};
 use crate::rivals::{Hashed, Pointed};
 use crate::text::{Integer, Published, Text};
 use crate::timing::{best, run, run_prepared, Run};
@@ -15,11 +15,19 @@ pub enum Measure {
     DualCells,
     ListAndDualCells,
     LookUps,
+    Slabs,
     Soundness,
 }
 
-pub const MEASURES: [Measure; 6] =
-    [Measure::Build, Measure::List, Measure::DualCells, Measure::ListAndDualCells, Measure::LookUps, Measure::Soundness];
+pub const MEASURES: [Measure; 7] = [
+    Measure::Build,
+    Measure::List,
+    Measure::DualCells,
+    Measure::ListAndDualCells,
+    Measure::LookUps,
+    Measure::Slabs,
+    Measure::Soundness,
+];
 
 impl Measure {
     pub fn name(self) -> &'static str {
@@ -28,6 +36,7 @@ impl Measure {
             Measure::List => "list",
             Measure::DualCells => "all dual cells",
             Measure::ListAndDualCells => "list and all dual cells",
+            Measure::Slabs => "all slabs",
             Measure::LookUps => "10,000 lookups",
             Measure::Soundness => "soundness",
         }
@@ -41,7 +50,7 @@ impl Measure {
             Measure::DualCells => Some(2.0),
             Measure::ListAndDualCells => Some(10.0),
             Measure::LookUps => Some(8.0),
-            Measure::Soundness => None,
+            Measure::Slabs | Measure::Soundness => None,
         }
     }
 
@@ -82,7 +91,7 @@ impl Rival {
 }
 
 /// The times of one measure on one tree, in seconds. A rival has none where it has no such call; the Rust has none where it builds
-/// another tree.
+/// another tree, nor of slabs where its centres are others.
 #[derive(Clone, Copy, Debug)]
 pub struct Times {
     pub ours: f64,
@@ -174,6 +183,7 @@ fn of_ours<'a>(measure: Measure, case: &'a Case, keys: &'a [u64]) -> Run<'a> {
         Measure::List => run(move || listing.list(finished.tree())),
         Measure::DualCells => run(move || listing.dual_cells(finished.tree())),
         Measure::ListAndDualCells => run(move || batch.dual_cells(finished.tree())),
+        Measure::Slabs => run(move || listing.slabs(finished.tree())),
         Measure::LookUps => run(move || look_ups(finished.tree(), keys)),
         Measure::Soundness => run(move || finished.tree().sound()),
     }
@@ -189,6 +199,11 @@ fn of_text<'a, T: Text + 'a>(measure: Measure, case: &'a Case, keys: &'a [u64]) 
             run_prepared(move || vertices.clone(), move |vertices| T::dual_cells(&octree, vertices))
         }
         Measure::ListAndDualCells => run(move || T::dual_cells(&octree, T::vertices(&octree))),
+        Measure::Slabs if !T::KNOWS_CENTRES => return None,
+        Measure::Slabs => {
+            let vertices = T::vertices(&octree);
+            run(move || T::slabs(&octree, &vertices, 1 << EXPONENT, told))
+        }
         Measure::LookUps => run(move || T::look_ups(&octree, keys)),
         Measure::Soundness => return None,
     };

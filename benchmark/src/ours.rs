@@ -1,6 +1,7 @@
 //! What is measured of ours: each call as a host makes it, over tables that it lends.
 
 use mittenhelm::{distance, most_vertices, start, DualCell, Lookup, Refusal, Request, SoundTree, State, Tables, Tree};
+use std::ops::RangeInclusive;
 
 /// No build has more nodes.
 pub const MOST_NODES: usize = 4096;
@@ -119,6 +120,25 @@ impl Listing {
         let bits = |cell: DualCell| cell.distances.iter().map(|distance| distance.to_bits() as u64).sum::<u64>();
         self.listed().map(|(vertex, level)| bits(dual_cell(tree, vertex, level))).sum()
     }
+
+    /// Checks the tree, and finds the slabs of the dual cell of each vertex listed last; the sum of what they are for.
+    pub fn slabs(&self, tree: Tree) -> u64 {
+        let tree = checked(tree);
+        let of = |(vertex, level)| {
+            let (first, last) = slabs(tree, vertex, level).into_inner();
+            told(vertex, first, last)
+        };
+        self.listed().map(of).fold(0, u64::wrapping_add)
+    }
+}
+
+/// Slabs of a cell are asked for with this exponent.
+pub const EXPONENT: u32 = 8;
+
+/// What the slabs of a vertex's cell count for in a sum, whatever its order: no two cells for the same.
+pub fn told(vertex: u64, first: u32, last: u32) -> u64 {
+    // The high bits of a vertex tell it from the others.
+    u64::from(first | last << 16).wrapping_mul(vertex.rotate_left(21) | 1)
 }
 
 impl Default for Listing {
@@ -187,7 +207,7 @@ pub fn look_ups(tree: Tree, keys: &[u64]) -> u64 {
     })
 }
 
-// The two calls that read one place of a tree: here alone is it chosen which form of them is measured.
+// The three calls that read one place of a tree: here alone is it chosen which form of them is measured.
 
 /// Said of that form in the report.
 pub const FORM: &str = "the forms that trust a tree, after one check of it that is timed with them";
@@ -198,6 +218,10 @@ pub fn checked(tree: Tree) -> SoundTree {
 
 pub fn dual_cell(tree: SoundTree, vertex: u64, level: u32) -> DualCell {
     tree.dual_cell(vertex, level).expect("a vertex of the tree")
+}
+
+pub fn slabs(tree: SoundTree, vertex: u64, level: u32) -> RangeInclusive<u32> {
+    tree.slabs(vertex, level, EXPONENT).expect("a vertex of the tree")
 }
 
 fn look_up(tree: SoundTree, key: u64) -> Lookup {

@@ -2,7 +2,7 @@
 
 use crate::machine;
 use crate::measures::{Measure, Rival, Row, Times, MEASURES, RIVALS};
-use crate::ours::{BATCH, FORM};
+use crate::ours::{BATCH, EXPONENT, FORM};
 use crate::trees::{is_near, SIZES};
 
 /// From this line on a written report is kept as it is when another is written over it.
@@ -47,7 +47,7 @@ fn introduction() -> String {
 
 Ours, proved and called through the C boundary as a host calls it, against the published Rust of isosurface 0.0.4, compiled from its own \
 text: the same trees in one run, native code on both sides. Before a tree is timed, both sides are seen to give the same nodes, leaves, vertices \
-with levels, dual cells and lookups.
+with levels, dual cells and lookups, and the Rust with the integer level the same slabs.
 
 {machine}
 
@@ -72,6 +72,10 @@ there; the Rust makes its hash map, and searches.
 `get_node` on each of them in turn. Ours uses the same form of call. Beside them, what one would write in a few lines without a library, and with no \
 check of the tree: a climb in a `HashMap<u64, f32>` with the standard hasher, which the published Rust's own map has too (\"hash map\"), and the way down \
 through nodes that own their eight children in a `Box` (\"pointers\").
+- **All slabs.** For each vertex of the list the first and the last of {slabs} slabs that its dual cell reaches. Ours uses the same form of call. The Rust \
+has no such call: it searches the eight nodes as for dual cells, takes the heights of their centres from its `center`, and of them the lowest and the \
+highest, each multiplied by {slabs} and rounded down. As published its `center` puts the keys elsewhere whose `level` is wrong, and every tree has such a \
+leaf: so slabs are compared with the integer level's alone, and timed against it.
 - **Soundness** is ours alone: whether the tables hold a sound tree.
 - **Times** are the best of batches of calls. The sides take turns, a batch each, until each has had 50 milliseconds at least, so that a change of the \
 machine's speed meets both. A ratio is the other's time by ours: above 1, ours is the quicker. Goals are set against the Rust as published.",
@@ -80,6 +84,7 @@ machine's speed meets both. A ratio is the other's time by ours: above 1, ours i
         sizes = listed(&SIZES),
         form = FORM,
         batch = BATCH,
+        slabs = 1 << EXPONENT,
     )
 }
 

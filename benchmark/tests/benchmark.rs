@@ -31,7 +31,7 @@ fn runs_on_small_trees() {
         let section = report.split(&heading).nth(1).expect("a table for each measure");
         let table = section.split("\n## ").next().expect("a part");
         assert_eq!(table.lines().filter(|line| line.starts_with("| sphere")).count(), rows.len(), "{report}");
-        // Only lookups have rivals beside the Rust, and soundness has none.
+        // Only lookups have rivals beside the Rust, and soundness has none. (As published it has none of these trees.)
         let columns = table.lines().find(|line| line.starts_with("| field")).expect("a head").matches("µs").count();
         let expected = match measure {
             Measure::LookUps => 4,
@@ -97,6 +97,10 @@ fn finds_every_difference() {
     assert_eq!(differs(|a| a.cells[9].swap(0, 1)), Some("dual cells"));
     assert_eq!(differs(|a| a.places[9].swap(0, 1)), Some("places of the dual cells"));
     assert_eq!(differs(|a| a.listed_places[9].swap(0, 1)), Some("places of the list's dual cells"));
+    assert_eq!(differs(|a| a.slabs.as_mut().expect("slabs")[9].0 += 1), Some("slabs of the dual cells"));
+    assert_eq!(differs(|a| a.slabs.as_mut().expect("slabs")[9].1 += 1), Some("slabs of the dual cells"));
+    assert_eq!(differs(|a| (a.slabs, a.sum_of_slabs) = (None, None)), None);
+    assert_eq!(differs(|a| a.sum_of_slabs = a.sum_of_slabs.map(|sum| sum + 1)), Some("sum of the slabs"));
     assert_eq!(differs(|a| a.sum_of_cells += 1), Some("sum of the dual cells"));
     assert_eq!(differs(|a| a.sum_of_listed_cells += 1), Some("sum of the list's dual cells"));
     assert_eq!(differs(|a| a.sum_of_look_ups += 1), Some("sum of the lookups"));
