@@ -43,8 +43,8 @@ of_the_text! {
         linear_hashed_marching_cubes::sum_of_dual_cells(&octree.0, vertices.0)
     }
 
-    /// Searches the eight nodes of each vertex, and takes the lowest and the highest of their centres: the sum of what the two slabs
-    /// are for, of so many.
+    /// Searches the eight nodes of each vertex, and takes the slabs, of so many, that hold the lowest and the highest of their centres;
+    /// the sum of what is told of the vertex with these two.
     fn slabs(octree: &Octree, vertices: &Vertices, count: f32, told: fn(u64, u32, u32) -> u64) -> u64 {
         let cells = vertices.0.iter().map(|(&vertex, &level)| {
             let heights = [0, 1, 2, 3, 4, 5, 6, 7].map(|which| found(octree, vertex.dual_vertex(level, which)).center().z);

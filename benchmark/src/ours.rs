@@ -121,7 +121,7 @@ impl Listing {
         self.listed().map(|(vertex, level)| bits(dual_cell(tree, vertex, level))).sum()
     }
 
-    /// Checks the tree, and finds the slabs of the dual cell of each vertex listed last; the sum of what they are for.
+    /// Checks the tree, and finds the slabs of the dual cell of each vertex listed last; the sum of what is told of them.
     pub fn slabs(&self, tree: Tree) -> u64 {
         let tree = checked(tree);
         let of = |(vertex, level)| {
@@ -135,7 +135,8 @@ impl Listing {
 /// Slabs of a cell are asked for with this exponent.
 pub const EXPONENT: u32 = 8;
 
-/// What the slabs of a vertex's cell count for in a sum, whatever its order: no two cells for the same.
+/// A cell's part in a sum over all cells, which come in any order: its slabs, weighed by its vertex, so that the slabs of another cell
+/// give another sum.
 pub fn told(vertex: u64, first: u32, last: u32) -> u64 {
     // The high bits of a vertex tell it from the others.
     u64::from(first | last << 16).wrapping_mul(vertex.rotate_left(21) | 1)

@@ -7,7 +7,7 @@ pub trait Text {
     type Octree;
     type Vertices: Clone;
 
-    /// Whether its `center` of each key is right: that takes the right level.
+    /// Whether its `center` of each key is right, which takes the right level.
     const KNOWS_CENTRES: bool;
 
     /// The octree of distances that are ready, in the order in which they are asked for.
@@ -24,8 +24,8 @@ pub trait Text {
     /// Searches the eight nodes of each vertex; the sum of the bits of their distances.
     fn dual_cells(octree: &Self::Octree, vertices: Self::Vertices) -> u64;
 
-    /// Searches the eight nodes of each vertex, and of their centres the lowest and the highest; the sum of what the slabs of these two
-    /// are for, of so many.
+    /// Searches the eight nodes of each vertex, and takes the slabs, of so many, that hold the lowest and the highest of their centres;
+    /// the sum of what is told of the vertex with these two.
     fn slabs(octree: &Self::Octree, vertices: &Self::Vertices, count: u32, told: fn(u64, u32, u32) -> u64) -> u64;
 
     /// Looks up each key; the sum of the keys found and of the bits of their distances.

@@ -1,5 +1,5 @@
 //! Vertices and dual cells of real trees against the published text: its `compute_primal_vertices`, as a set with levels, and the
-//! search for eight nodes of its `extract_surface`.
+//! search for eight nodes of its `extract_surface`. The slabs of the cells are those of the heights that its `center` has.
 
 use crate::calls::{Given, Seen};
 use oracle_answers::fields::{field, Kind};
@@ -21,6 +21,8 @@ struct Compared {
     /// Dual cells of the published build's own tree that are ours; and those that a differing level reaches.
     own_cells: u64,
     own_reached: u64,
+    /// Cells whose slabs are those of the published build's centres too, since no level of a node differs.
+    published_slabs: u64,
 }
 
 type Vertices = Vec<(u64, usize)>;
@@ -35,12 +37,23 @@ fn nodes(tables: &Tables, places: [usize; 8]) -> ([u64; 8], [u32; 8]) {
     (places.map(|place| tables.keys[place]), places.map(|place| tables.distances[place]))
 }
 
+/// The slabs of a cell at every exponent, by the centres that a build gives its nodes. An f32 holds a height times 2^15.
+fn compare_slabs(given: &Given, vertex: u64, level: u32, centres: [[f32; 3]; 8]) {
+    let heights = centres.map(|[_, _, z]| z);
+    let (lowest, highest) = (heights.into_iter().fold(1.0, f32::min), heights.into_iter().fold(0.0, f32::max));
+    for exponent in 0..16 {
+        let slabs = [lowest, highest].map(|height| (height * (1 << exponent) as f32) as u32);
+        assert_eq!(given.ask_slabs_trusting(vertex, level, exponent), (0, slabs), "{vertex:#x}, {level}, {exponent}");
+    }
+}
+
 fn eight(cell: DualCell) -> ([u64; 8], [u32; 8]) {
     (cell.keys, cell.distances)
 }
 
-/// The list of a tree and each dual cell: ours, the model's and the integer build's. Hands on the vertices with their dual cells.
-fn compare(given: &Given, seen: &mut Seen) -> Vec<(u64, u32, DualCell)> {
+/// The list of a tree and each dual cell with its slabs: ours, the model's and the integer build's. Hands on the vertices with their dual
+/// cells.
+fn compare(given: &Given, seen: &mut Seen, compared: &mut Compared) -> Vec<(u64, u32, DualCell)> {
     let vertices = given.vertices();
     assert_eq!(given.list(0, [vertices.len(); 2], seen), Ok(vertices.len()));
     let cell = |(vertex, level)| (vertex, level, given.dual_cell(vertex, level, seen).expect("a listed vertex"));
@@ -57,6 +70,13 @@ fn compare(given: &Given, seen: &mut Seen) -> Vec<(u64, u32, DualCell)> {
             for (&(vertex, _, cell), places) in ours.iter().zip(searched.into_iter().map(found)) {
                 assert_eq!(cell.places, places.map(|place| place as u64), "the dual cell of {vertex:#x}");
                 assert_eq!(eight(cell), nodes(&given.tables, places), "the dual cell of {vertex:#x}");
+            }
+        }
+        for &(vertex, level, cell) in &ours {
+            compare_slabs(given, vertex, level, cell.keys.map(integer::center));
+            if !cell.keys.iter().any(|&key| is_wrong(key)) {
+                compare_slabs(given, vertex, level, cell.keys.map(published::center));
+                compared.published_slabs += 1;
             }
         }
     }
@@ -136,7 +156,7 @@ fn trees_of(kind: Kind) {
                 continue;
             }
             let given = Given::new(tree.tables());
-            let ours = compare(&given, &mut seen);
+            let ours = compare(&given, &mut seen, &mut compared);
             assert_within_bound(tree.nodes.len(), ours.len());
             if compares_with_text() {
                 compare_published(&given, &ours, &mut compared);
@@ -151,6 +171,7 @@ fn trees_of(kind: Kind) {
     if compares_with_text() {
         assert!(compared.published > compared.vertices / 10 * 8 && compared.reached >= compared.trees, "{compared:?}");
         assert!(compared.own_cells > compared.vertices / 10 * 8 && compared.own_reached >= compared.trees, "{compared:?}");
+        assert!(compared.published_slabs > compared.vertices / 10 * 8, "{compared:?}");
     }
 }
 
@@ -163,7 +184,7 @@ fn grown_trees() {
     let mut deepest = 0;
     for round in 0..600 {
         let given = Given::new(grown(GROWTHS[round % 3], round / 10, 15, &mut random));
-        let ours = compare(&given, &mut seen);
+        let ours = compare(&given, &mut seen, &mut compared);
         if compares_with_text() {
             compare_published(&given, &ours, &mut compared);
         }

@@ -206,7 +206,7 @@ impl Height {
     }
 
     /// The slab that it lies in: the height times 2^s, rounded down.
-    fn slab(self, exponent: u32) -> u32 {
+    fn slab_by(self, exponent: u32) -> u32 {
         (self.above * 2u64.pow(exponent) / self.below) as u32
     }
 }
@@ -232,7 +232,7 @@ impl Reach {
         if exponent > GREATEST_EXPONENT {
             return Err(5);
         }
-        Ok(Slabs { first: self.lowest.slab(exponent), last: self.highest.slab(exponent) })
+        Ok(Slabs { first: self.lowest.slab_by(exponent), last: self.highest.slab_by(exponent) })
     }
 }
 
