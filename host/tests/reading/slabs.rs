@@ -7,6 +7,7 @@ use oracle_answers::model::reading::{Height, Reach, Slabs};
 use oracle_answers::model::{is_inner, level, vertex};
 use oracle_answers::questions::below;
 use oracle_answers::trees::{grown, Growth, GROWTHS};
+use std::collections::BTreeSet;
 
 /// The exponents that are accepted.
 const EXPONENTS: std::ops::Range<u32> = 0..16;
@@ -107,7 +108,7 @@ fn every_exponent(given: &Given, (vertex, level): (u64, u32), is_listed: bool, c
     }
 }
 
-/// A thousand trees, each with a thousand cells: those that it lists, and others of all levels.
+/// A thousand trees, each with a thousand cells, none twice: those that it lists, and others of all levels.
 #[test]
 fn a_million_cells_at_every_exponent() {
     let (mut random, mut seen, mut counts) = (Random::new(1), Seen::default(), Counts::default());
@@ -117,10 +118,11 @@ fn a_million_cells_at_every_exponent() {
         for &at in &listed {
             every_exponent(&given, at, true, &mut counts);
         }
-        while counts.cells() < 1000 * (round as u64 + 1) {
+        let mut tried: BTreeSet<(u64, u32)> = listed.iter().copied().collect();
+        while tried.len() < 1000 {
             let (vertex, level) = some_vertex(&given, &listed, &mut random);
-            if is_inner(vertex, level) {
-                every_exponent(&given, (vertex, level), listed.contains(&(vertex, level)), &mut counts);
+            if is_inner(vertex, level) && tried.insert((vertex, level)) {
+                every_exponent(&given, (vertex, level), false, &mut counts);
             }
         }
         // The tree's own tables are as they were.
@@ -129,7 +131,8 @@ fn a_million_cells_at_every_exponent() {
     println!("{} cells: {counts:?}", counts.cells());
     let Counts { listed, unlisted, apart, reached, ends, levels } = &counts;
     assert!(counts.cells() >= 1_000_000 && *listed > 100_000 && *apart > 10_000);
-    assert!(unlisted[1..].iter().all(|&seen| seen > 1000));
+    // A tree has one vertex of level 1.
+    assert!(unlisted[1] > 500 && unlisted[2..].iter().all(|&seen| seen > 1000));
     // Of one slab, and of two, no cell reaches more than there are.
     assert!(reached[0] == [counts.cells(), 0, 0] && reached[1][..2].iter().all(|&seen| seen > 1000) && reached[1][2] == 0);
     assert!(reached[2..].iter().flatten().all(|&seen| seen > 1000));
