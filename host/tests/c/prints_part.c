@@ -1,6 +1,6 @@
-/* A part from its distance field to its dual cells and the slabs that they reach, as a printer's firmware does it: static tables, no heap. It prints the
- * part in two resins, and keeps which in a table of its own beside the nodes. Written in the language that C and C++ share. It prints its
- * totals, and exits 0 if all that it was given is as the header says. */
+/* A part from its distance field to its dual cells and the slabs that they reach, as a printer's firmware does it: static tables, no heap.
+ * It prints the part in two resins, and keeps which in a table of its own beside the nodes. Written in the language that C and C++ share. It
+ * prints its totals, and exits 0 if all that it was given is as the header says. */
 #include "expect.h"
 #include "mittenhelm.h"
 
