@@ -40,7 +40,8 @@ use Rattle.mittenhelm_builds.specs.Words.{stateOf, wordsOf, Reply, reply, handO
 use Rattle.mittenhelm_builds.specs.Header.{Told}
 use Rattle.mittenhelm_builds.proofs.Words.{start-deep, start-wordless, start-over, distance-wordless, distance-over}
 use Rattle.mittenhelm_builds.proofs.Header.{read-back, written-back, words-are-nine, words-told}
-use Rattle.mittenhelm_reading.specs.Reading.{Eight, HandsEight, HandsList, Span, HandsSpan}
+use Rattle.mittenhelm_reading.specs.Reading.{Eight, HandsEight, HandsList}
+use Rattle.mittenhelm_slabs.specs.Spans.{Span, HandsSpan}
 use Rattle.hosts.specs.HostRun.{Host, HostRun}
 use Rattle.hosts.specs.HostRun.HostRun.{started, told}
 use Rattle.hosts.specs.Hosts.{IsABuild, InReach}

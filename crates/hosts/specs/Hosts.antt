@@ -20,7 +20,8 @@ use Rattle.demands.specs.Reading.{ListsCorners, LeafCell, part, Reading}
 use Rattle.demands.specs.Slabs.{HasVertex}
 use Rattle.mittenhelm_builds.specs.Words.{stateOf, wordsOf, reply, startReplies, Effect, effect, distanceEffect}
 use Rattle.mittenhelm_builds.specs.Header.{word, Told}
-use Rattle.mittenhelm_reading.specs.Reading.{Eight, HandsList, HandsDual, Span, HandsSlabs}
+use Rattle.mittenhelm_reading.specs.Reading.{Eight, HandsList, HandsDual}
+use Rattle.mittenhelm_slabs.specs.Spans.{Span, HandsSlabs}
 use Rattle.hosts.specs.HostRun.{Host, HostRun, treeIn}
 
 -- ---- a host's build is a build, and each build is in reach of every host

@@ -9,9 +9,7 @@ use Rattle.vertices.specs.declared.ListAnswer.{ListAnswer}
 use Rattle.vertices.specs.declared.ListAnswer.the-variants as list
 use Rattle.dual.specs.declared.Tried.{Tried}
 use Rattle.dual.specs.declared.Tried.the-variants as tried
-use Rattle.slabs.specs.declared.SlabsAnswer.{SlabsAnswer}
-use Rattle.slabs.specs.declared.SlabsAnswer.the-variants as slabs
-use Rattle.mittenhelm_reading.specs.Reading.{Found, foundAt, HandsFound, Eight, eightAt, HandsEight, HandsCount, Span, spanAt, HandsSpan}
+use Rattle.mittenhelm_reading.specs.Reading.{Found, foundAt, HandsFound, Eight, eightAt, HandsEight, HandsCount}
 
 pub found-is : (a : Lookup) (was : Found) (k : ℕ) (d : Float) (p n : ℕ) → a ≡ lookup.Found k d p n → HandsFound a was 0 (foundAt k d p n)
 found-is a was k d p n e = subst (λ (b : Lookup). HandsFound b was 0 (foundAt k d p n)) (sym e) (refl, refl)
@@ -38,9 +36,3 @@ count-is a was n e = subst (λ (b : ListAnswer). HandsCount b was 0 n) (sym e) (
 
 pub count-refused : (a : ListAnswer) (was k : ℕ) → a ≡ list.Refused k → HandsCount a was k was
 count-refused a was k e = subst (λ (b : ListAnswer). HandsCount b was k was) (sym e) (refl, refl)
-
-pub span-is : (a : SlabsAnswer) (was : Span) (first last : ℕ) → a ≡ slabs.Reach first last → HandsSpan a was 0 (spanAt first last)
-span-is a was first last e = subst (λ (b : SlabsAnswer). HandsSpan b was 0 (spanAt first last)) (sym e) (refl, refl)
-
-pub span-refused : (a : SlabsAnswer) (was : Span) (k : ℕ) → a ≡ slabs.Refused k → HandsSpan a was k was
-span-refused a was k e = subst (λ (b : SlabsAnswer). HandsSpan b was k was) (sym e) (refl, refl)

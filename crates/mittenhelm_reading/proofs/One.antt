@@ -18,11 +18,7 @@ use Rattle.dual.specs.declared.Tried.{Tried}
 use Rattle.dual.specs.declared.Tried.the-variants as tried
 use Rattle.dual.specs.Dual.{DualSays}
 use Rattle.dual.proofs.One.{dual-cell-one as dual-answer-one}
-use Rattle.slabs.specs.declared.SlabsAnswer.{SlabsAnswer}
-use Rattle.slabs.specs.declared.SlabsAnswer.the-variants as slabs
-use Rattle.slabs.specs.Heights.{SlabsSays}
-use Rattle.slabs.proofs.One.{slabs-one as slabs-answer-one}
-use Rattle.mittenhelm_reading.specs.Reading.{Found, foundAt, HandsFound, HandsLookup, Eight, eightAt, HandsEight, HandsDual, HandsCount, HandsList, Span, spanAt, HandsSpan, HandsSlabs}
+use Rattle.mittenhelm_reading.specs.Reading.{Found, foundAt, HandsFound, HandsLookup, Eight, eightAt, HandsEight, HandsDual, HandsCount, HandsList}
 
 pub sound-one : (t : Tree) → OnlyOne (λ (r : Bool). Decides r (Sound t))
 sound-one t = sound-answer-one t
@@ -63,10 +59,3 @@ listed-on says answer was r s p q =
 pub list-one : (t : Tree) (start was : ℕ) (before : Lists)
     → OnlyOne (λ (r : Lists × (ℕ × ℕ)). HandsList t start before (r .0) was (r .1 .0) (r .1 .1))
 list-one t start was before = listed-on (λ after a. ListSays t start before after a) (list-answer-one t start before) was
-
-pub hand-span-one : (a : SlabsAnswer) (was : Span) → OnlyOne (λ (r : ℕ × Span). HandsSpan a was (r .0) (r .1))
-hand-span-one (slabs.Reach first last) was = both 0 (spanAt first last)
-hand-span-one (slabs.Refused k) was = both k was
-
-pub slabs-one : (t : Tree) (L v s : ℕ) (was : Span) → OnlyOne (λ (r : ℕ × Span). HandsSlabs t L v s was (r .0) (r .1))
-slabs-one t L v s was = handed-on (SlabsSays t L v s) (λ a r. HandsSpan a was (r .0) (r .1)) (slabs-answer-one t L v s) (λ a. hand-span-one a was)

@@ -14,9 +14,6 @@ use Rattle.dual.specs.declared.Dual.{Dual}
 use Rattle.dual.specs.declared.Tried.{Tried}
 use Rattle.dual.specs.declared.Tried.the-variants as tried
 use Rattle.dual.specs.Dual.{DualSays}
-use Rattle.slabs.specs.declared.SlabsAnswer.{SlabsAnswer}
-use Rattle.slabs.specs.declared.SlabsAnswer.the-variants as slabs
-use Rattle.slabs.specs.Heights.{SlabsSays}
 
 -- What a lookup hands over, in four out parameters.
 pub record Found : Type 0 where
@@ -64,19 +61,3 @@ HandsCount (list.Refused k) was r out = (r ≡ k) × (out ≡ was)
 -- The answer, with the tables that it leaves, is the one that `list` promises.
 abbrev pub HandsList : Tree → ℕ → Lists → Lists → ℕ → ℕ → ℕ → Type 0
 HandsList t start before after was r out = (a : ListAnswer) × ListSays t start before after a × HandsCount a was r out
-
--- The first and the last slab, in two out parameters.
-pub record Span : Type 0 where
-  pub first : ℕ
-  pub last : ℕ
-
-abbrev pub spanAt : ℕ → ℕ → Span
-spanAt first last = record { first = first; last = last }
-
-abbrev pub HandsSpan : SlabsAnswer → Span → ℕ → Span → Type 0
-HandsSpan (slabs.Reach first last) was r out = (r ≡ 0) × (out ≡ spanAt first last)
-HandsSpan (slabs.Refused k) was r out = (r ≡ k) × (out ≡ was)
-
--- The answer is the one that `slabs` promises.
-abbrev pub HandsSlabs : Tree → ℕ → ℕ → ℕ → Span → ℕ → Span → Type 0
-HandsSlabs t L v s was r out = (a : SlabsAnswer) × SlabsSays t L v s a × HandsSpan a was r out

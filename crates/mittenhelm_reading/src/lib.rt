@@ -1,12 +1,11 @@
 // The boundary for hosts, reading: numbers and slices only. include/mittenhelm.h declares each function for C.
 use dual::Dual;
 use dual::Tried;
-use slabs::SlabsAnswer;
 use tree::Lookup;
 use vertices::ListAnswer;
 ghost use Rattle.tree.specs.Tree.{treeOf, Sound, Decides};
 ghost use Rattle.vertices.specs.Listing.{listsOf};
-ghost use Rattle.mittenhelm_reading.specs.Reading.{foundAt, HandsFound, HandsLookup, eightAt, HandsEight, HandsDual, HandsCount, HandsList, spanAt, HandsSpan, HandsSlabs};
+ghost use Rattle.mittenhelm_reading.specs.Reading.{foundAt, HandsFound, HandsLookup, eightAt, HandsEight, HandsDual, HandsCount, HandsList};
 
 // Hands a lookup over: what it found to the four out parameters, or its refusal.
 pub fn hand_found(
@@ -86,23 +85,6 @@ pub fn hand_count(answer: ListAnswer, count: &mut usize) -> u32
     }
 }
 
-// Hands slabs over: the first and the last to the two out parameters, or their refusal.
-pub fn hand_span(answer: SlabsAnswer, first: &mut u32, last: &mut u32) -> u32
-    ensures { λ r. ⌜ HandsSpan answer (spanAt (now (first .entry)) (now (last .entry))) r (spanAt (now (first .exit)) (now (last .exit))) ⌝ }
-{
-    match answer {
-        SlabsAnswer::Reach {
-            first: low,
-            last: high,
-        } => {
-            *first = low;
-            *last = high;
-            0
-        }
-        SlabsAnswer::Refused(number) => number,
-    }
-}
-
 #[no_mangle]
 pub extern "C" fn mittenhelm_sound(
     keys: &[u64],
@@ -176,24 +158,4 @@ pub extern "C" fn mittenhelm_dual_cell(
 {
     let cell = dual::dual_cell(keys, distances, firsts, leaves, vertex, level);
     hand_eight(cell, nodes, values, places, tried)
-}
-
-#[no_mangle]
-pub extern "C" fn mittenhelm_slabs(
-    keys: &[u64],
-    distances: &[f32],
-    firsts: &[u16],
-    leaves: &[u64],
-    vertex: u64,
-    level: u32,
-    exponent: u32,
-    first: &mut u32,
-    last: &mut u32,
-) -> u32
-    ensures { λ r. ⌜
-        HandsSlabs (treeOf (now (keys .entry)) (now (distances .entry)) (now (firsts .entry)) (now (leaves .entry))) level vertex exponent
-        (spanAt (now (first .entry)) (now (last .entry))) r (spanAt (now (first .exit)) (now (last .exit))) ⌝ }
-{
-    let answer = slabs::slabs(keys, distances, firsts, leaves, vertex, level, exponent);
-    hand_span(answer, first, last)
 }

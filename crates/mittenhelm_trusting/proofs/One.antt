@@ -11,11 +11,9 @@ use Rattle.vertices.proofs.One.{list-trusting-one as list-answer-one, cells-tru
 use Rattle.dual.specs.declared.Dual.{Dual}
 use Rattle.dual.specs.Dual.{TrustingSays as DualTrustingSays}
 use Rattle.dual.proofs.One.{dual-cell-trusting-one as dual-answer-one}
-use Rattle.slabs.specs.Heights.{TrustingSays as SlabsTrustingSays}
-use Rattle.slabs.proofs.One.{slabs-trusting-one as slabs-answer-one}
-use Rattle.mittenhelm_reading.specs.Reading.{Found, HandsFound, Eight, HandsEight, Span, HandsSpan}
-use Rattle.mittenhelm_reading.proofs.One.{hand-found-one, hand-eight-one, listed-on, hand-span-one}
-use Rattle.mittenhelm_trusting.specs.Trusting.{HandsTrustedList, HandsTrustedDual, HandsTrustedSlabs}
+use Rattle.mittenhelm_reading.specs.Reading.{Found, HandsFound, Eight, HandsEight}
+use Rattle.mittenhelm_reading.proofs.One.{hand-found-one, hand-eight-one, listed-on}
+use Rattle.mittenhelm_trusting.specs.Trusting.{HandsTrustedList, HandsTrustedDual}
 
 pub look-up-trusting-one : (n : Nodes) (ds : List Float) (k : ℕ) (was : Found) → OnlyOne (λ (r : ℕ × Found). HandsFound (trustingOf n ds k) was (r .0) (r .1))
 look-up-trusting-one n ds k was = hand-found-one (trustingOf n ds k) was
@@ -31,6 +29,3 @@ pub dual-cell-trusting-one : (n : Nodes) (ds : List Float) (L v : ℕ) (was : Ei
 dual-cell-trusting-one n ds L v was =
     handed-on (λ (a : Dual). DualTrustingSays n ds L v (a .keys) (a .distances) (a .places) (a .tried)) (λ a r. HandsEight (a .keys) (a .distances) (a .places) (a .tried) was (r .0) (r .1))
     (dual-answer-one n ds L v) (λ a. hand-eight-one a was)
-
-pub slabs-trusting-one : (n : Nodes) (L v s : ℕ) (was : Span) → OnlyOne (λ (r : ℕ × Span). HandsTrustedSlabs n L v s was (r .0) (r .1))
-slabs-trusting-one n L v s was = handed-on (SlabsTrustingSays n L v s) (λ a r. HandsSpan a was (r .0) (r .1)) (slabs-answer-one n L v s) (λ a. hand-span-one a was)

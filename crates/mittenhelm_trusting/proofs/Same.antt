@@ -6,9 +6,8 @@ use Rattle.tree.proofs.Finding.{nodes, trusting-lookup}
 use Rattle.vertices.specs.Listing.{Lists}
 use Rattle.vertices.proofs.Law.{trusting-list}
 use Rattle.dual.proofs.Filling.{trusting-dual}
-use Rattle.slabs.proofs.Answering.{trusting-slabs}
-use Rattle.mittenhelm_reading.specs.Reading.{Found, HandsFound, HandsLookup, HandsList, Eight, HandsDual, Span, HandsSlabs}
-use Rattle.mittenhelm_trusting.specs.Trusting.{HandsTrustedList, HandsTrustedDual, HandsTrustedSlabs}
+use Rattle.mittenhelm_reading.specs.Reading.{Found, HandsFound, HandsLookup, HandsList, Eight, HandsDual}
+use Rattle.mittenhelm_trusting.specs.Trusting.{HandsTrustedList, HandsTrustedDual}
 
 module _ (t : Tree) (S : Sound t) where
   pub same-look-up : (key : ℕ) (was : Found) (r : ℕ) (out : Found) → HandsFound (trustingOf (nodes t) (t .distances) key) was r out → HandsLookup t key was r out
@@ -20,6 +19,3 @@ module _ (t : Tree) (S : Sound t) where
   -- a vertex is a number of 64 bits
   pub same-dual-cell : (L v : ℕ) → v < 2 ^ 64 → (was : Eight) (r : ℕ) (out : Eight) → HandsTrustedDual (nodes t) (t .distances) L v was r out → HandsDual t L v was r out
   same-dual-cell L v word was r out (a, says, h) = (a, trusting-dual t S L v word (a .keys) (a .distances) (a .places) (a .tried) says, h)
-
-  pub same-slabs : (L v s : ℕ) → v < 2 ^ 64 → (was : Span) (r : ℕ) (out : Span) → HandsTrustedSlabs (nodes t) L v s was r out → HandsSlabs t L v s was r out
-  same-slabs L v s word was r out (a, says, h) = (a, trusting-slabs t S L v s word a says, h)

@@ -3,8 +3,8 @@ ghost use Rattle.tree.specs.Down.{nodesOf};
 ghost use Rattle.tree.specs.Climb.{trustingOf};
 ghost use Rattle.vertices.specs.Listing.{listsOf};
 ghost use Rattle.vertices.specs.Cells.{cellsOf, CellsSays};
-ghost use Rattle.mittenhelm_reading.specs.Reading.{foundAt, HandsFound, eightAt, spanAt};
-ghost use Rattle.mittenhelm_trusting.specs.Trusting.{HandsTrustedList, HandsTrustedDual, HandsTrustedSlabs};
+ghost use Rattle.mittenhelm_reading.specs.Reading.{foundAt, HandsFound, eightAt};
+ghost use Rattle.mittenhelm_trusting.specs.Trusting.{HandsTrustedList, HandsTrustedDual};
 
 #[no_mangle]
 pub extern "C" fn mittenhelm_look_up_trusting(
@@ -79,22 +79,4 @@ pub extern "C" fn mittenhelm_dual_cell_trusting(
 {
     let cell = dual::dual_cell_trusting(keys, distances, firsts, vertex, level);
     mittenhelm_reading::hand_eight(cell, nodes, values, places, tried)
-}
-
-#[no_mangle]
-pub extern "C" fn mittenhelm_slabs_trusting(
-    keys: &[u64],
-    firsts: &[u16],
-    vertex: u64,
-    level: u32,
-    exponent: u32,
-    first: &mut u32,
-    last: &mut u32,
-) -> u32
-    ensures { λ r. ⌜
-        HandsTrustedSlabs (nodesOf (now (keys .entry)) (now (firsts .entry))) level vertex exponent
-        (spanAt (now (first .entry)) (now (last .entry))) r (spanAt (now (first .exit)) (now (last .exit))) ⌝ }
-{
-    let answer = slabs::slabs_trusting(keys, firsts, vertex, level, exponent);
-    mittenhelm_reading::hand_span(answer, first, last)
 }

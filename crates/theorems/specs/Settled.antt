@@ -35,7 +35,6 @@ use Rattle.vertices.proofs.One as vertices
 use Rattle.dual.specs.declared.Dual.{Dual}
 use Rattle.dual.specs.Dual.{DualSays, TrustingSays as DualTrustingSays}
 use Rattle.dual.proofs.One as dual
-use Rattle.slabs.specs.declared.SlabsAnswer.{SlabsAnswer}
 use Rattle.slabs.specs.Heights.{SlabsSays, TrustingSays as SlabsTrustingSays}
 use Rattle.slabs.proofs.One as slabs
 use Rattle.counting.specs.declared.Text.{Text}
@@ -45,10 +44,12 @@ use Rattle.mittenhelm_keys.specs.Keys.{HandsKey, HandsSize, Three, HandsCentre}
 use Rattle.mittenhelm_keys.proofs.One as keys
 use Rattle.mittenhelm_builds.specs.Words.{Reply, startReplies, Effect, distanceEffect}
 use Rattle.mittenhelm_builds.proofs.One as builds
-use Rattle.mittenhelm_reading.specs.Reading.{Found, HandsFound, HandsLookup, Eight, HandsEight, HandsDual, HandsCount, HandsList, Span, HandsSpan, HandsSlabs}
+use Rattle.mittenhelm_reading.specs.Reading.{Found, HandsFound, HandsLookup, Eight, HandsEight, HandsDual, HandsCount, HandsList}
 use Rattle.mittenhelm_reading.proofs.One as reading
-use Rattle.mittenhelm_trusting.specs.Trusting.{HandsTrustedList, HandsTrustedDual, HandsTrustedSlabs}
+use Rattle.mittenhelm_trusting.specs.Trusting.{HandsTrustedList, HandsTrustedDual}
 use Rattle.mittenhelm_trusting.proofs.One as trusting
+use Rattle.mittenhelm_slabs.specs.Spans.{Span, HandsSlabs, HandsTrustedSlabs}
+use Rattle.mittenhelm_slabs.proofs.One as spans
 
 -- Two answers that meet a promise are the same.
 abbrev pub OnlyOne : {A : Type 0} → (A → Type 0) → Type 0
@@ -217,7 +218,7 @@ pub mittenhelm-dual-cell-one : (t : Tree) (L v : ℕ) (was : Eight) → OnlyOne 
 mittenhelm-dual-cell-one = reading.dual-cell-one
 
 pub mittenhelm-slabs-one : (t : Tree) (L v s : ℕ) (was : Span) → OnlyOne (λ (r : ℕ × Span). HandsSlabs t L v s was (r .0) (r .1))
-mittenhelm-slabs-one = reading.slabs-one
+mittenhelm-slabs-one = spans.slabs-one
 
 pub mittenhelm-look-up-trusting-one : (ks : Nodes) (ds : List Float) (k : ℕ) (was : Found) → OnlyOne (λ (r : ℕ × Found). HandsFound (trustingOf ks ds k) was (r .0) (r .1))
 mittenhelm-look-up-trusting-one = trusting.look-up-trusting-one
@@ -232,7 +233,7 @@ pub mittenhelm-dual-cell-trusting-one : (ks : Nodes) (ds : List Float) (L v : �
 mittenhelm-dual-cell-trusting-one = trusting.dual-cell-trusting-one
 
 pub mittenhelm-slabs-trusting-one : (ks : Nodes) (L v s : ℕ) (was : Span) → OnlyOne (λ (r : ℕ × Span). HandsTrustedSlabs ks L v s was (r .0) (r .1))
-mittenhelm-slabs-trusting-one = trusting.slabs-trusting-one
+mittenhelm-slabs-trusting-one = spans.slabs-trusting-one
 
 -- ---- what hands an answer to a host
 
@@ -244,6 +245,3 @@ hand-eight-one = reading.hand-eight-one
 
 pub hand-count-one : (a : ListAnswer) (was : ℕ) → OnlyOne (λ (r : ℕ × ℕ). HandsCount a was (r .0) (r .1))
 hand-count-one = reading.hand-count-one
-
-pub hand-span-one : (a : SlabsAnswer) (was : Span) → OnlyOne (λ (r : ℕ × Span). HandsSpan a was (r .0) (r .1))
-hand-span-one = reading.hand-span-one

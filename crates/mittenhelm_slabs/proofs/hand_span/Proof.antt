@@ -1,8 +1,8 @@
 -- `hand_span` meets its contract: each case goes to its places. Assumes nothing.
-use Rattle.mittenhelm_reading.proofs.Handing.{span-is, span-refused}
+use Rattle.mittenhelm_slabs.proofs.Handing.{span-is, span-refused}
 use borrow.Author.Needs.{needs}
-use Rattle.mittenhelm_reading.proofs.hand_span.Statement.{statement}
-use Rattle.mittenhelm_reading.proofs.hand_span.Tie as tie
+use Rattle.mittenhelm_slabs.proofs.hand_span.Statement.{statement}
+use Rattle.mittenhelm_slabs.proofs.hand_span.Tie as tie
 
 enum-known-answer : tie.Need-enum-known-answer
 enum-known-answer c = search needs

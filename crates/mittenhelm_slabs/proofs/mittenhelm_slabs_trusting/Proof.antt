@@ -1,7 +1,7 @@
 -- `mittenhelm_slabs_trusting` meets its contract: it hands on what `slabs_trusting` answers. Assumes nothing.
 use borrow.Author.Needs.{needs}
-use Rattle.mittenhelm_trusting.proofs.mittenhelm_slabs_trusting.Statement.{statement}
-use Rattle.mittenhelm_trusting.proofs.mittenhelm_slabs_trusting.Tie as tie
+use Rattle.mittenhelm_slabs.proofs.mittenhelm_slabs_trusting.Statement.{statement}
+use Rattle.mittenhelm_slabs.proofs.mittenhelm_slabs_trusting.Tie as tie
 
 slabs-trusting-requires : tie.Need-slabs-trusting-requires
 slabs-trusting-requires c κs = search needs

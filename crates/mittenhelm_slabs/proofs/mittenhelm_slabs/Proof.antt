@@ -1,7 +1,7 @@
 -- `mittenhelm_slabs` meets its contract: it hands on what `slabs` answers. Assumes nothing.
 use borrow.Author.Needs.{needs}
-use Rattle.mittenhelm_reading.proofs.mittenhelm_slabs.Statement.{statement}
-use Rattle.mittenhelm_reading.proofs.mittenhelm_slabs.Tie as tie
+use Rattle.mittenhelm_slabs.proofs.mittenhelm_slabs.Statement.{statement}
+use Rattle.mittenhelm_slabs.proofs.mittenhelm_slabs.Tie as tie
 
 slabs-requires : tie.Need-slabs-requires
 slabs-requires c κs = search needs

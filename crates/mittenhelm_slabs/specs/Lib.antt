@@ -1,0 +1,2 @@
+-- What the contracts of `mittenhelm_slabs` cite.
+pub mod Spans
