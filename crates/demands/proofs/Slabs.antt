@@ -28,7 +28,7 @@ use Rattle.geometry.proofs.Listing.{giver, listed-strict, listed-corner}
 use Rattle.dual.specs.declared.Dual.{Dual}
 use Rattle.dual.specs.declared.Tried.{Tried}
 use Rattle.dual.specs.declared.Tried.the-variants as tried
-use Rattle.dual.specs.Dual.{DualCell, DualSays}
+use Rattle.dual.specs.Dual.{NoCell, DualCell, DualSays}
 use Rattle.dual.proofs.One.{dual-cell-one}
 use Rattle.slabs.specs.declared.SlabsAnswer.{SlabsAnswer}
 use Rattle.slabs.specs.declared.SlabsAnswer.the-variants.{Reach, Refused}
@@ -274,13 +274,25 @@ module _ (t : Tree) {L v s first last : ℕ} where
   spans-order : SlabsSays t L v s (Reach first last) → (first ≤ last) × (last < 2 ^ s)
   spans-order says = let (S, inner, d, r) = reaching says (says .0) (says .1) in reach-order r
 
+-- there is a cell, or none
+some-cell : (ks : List ℕ) (L v : ℕ) → isInner L v ≡ true → 1 < length ks → NoCell ks L v → ⊥
+some-cell ks L v inner more none = ⊎-elim (λ f. true≢false (sym inner ∙ f)) (λ alone. omega arith) none
+
+slabs-answered : (t : Tree) (L v s first last : ℕ) → SlabsSays t L v s (Reach first last) → Sound t × (NoCell (t .keys) L v → ⊥) × (s ≤ 15)
+slabs-answered t L v s first last (c, says, of) = go (c .tried) says of
+  where
+    go : (a : Tried) → DualSays t L v (c .keys) (c .distances) (c .places) a → OfCell a (c .keys) s (Reach first last)
+        → Sound t × (NoCell (t .keys) L v → ⊥) × (s ≤ 15)
+    go (tried.Keys n) (S, inner, more, _) (h, _) = (S, some-cell (t .keys) L v inner more, h)
+    go (tried.Refused k) _ e = let z : _≡_ {A = ℕ} 0 1 = cc in absurd (omega arith)
+
 -- why it is refused
 slabs-refused : (t : Tree) (L v s k : ℕ) → SlabsSays t L v s (Refused k) → WhyNot t L v s k
 slabs-refused t L v s k (c, says, of) = go (c .tried) says of
   where
     go : (a : Tried) → DualSays t L v (c .keys) (c .distances) (c .places) a → OfCell a (c .keys) s (Refused k) → WhyNot t L v s k
     go (tried.Keys n) (S, inner, more, _) (h, five) =
-        inr (inr (S, (λ none. ⊎-elim (λ f. true≢false (sym inner ∙ f)) (λ alone. omega arith) none), h, five))
+        inr (inr (S, some-cell (t .keys) L v inner more, h, five))
     go (tried.Refused m) (_, _, _, why) e =
         let same : k ≡ m = cc in
         ⊎-elim (λ x. inl (x .0, same ∙ x .1)) (λ x. inr (inl (x .0, x .1, same ∙ x .2))) why
@@ -295,12 +307,13 @@ has-vertex t sound vs ls list j l s h (Refused k) says =
     let inner = listed-inner t sound limit (omega arith) within vs ls list j l in
     let more = listed-more t sound limit (omega arith) within vs ls list j l in
     ⊎-elim (λ x. x .0 sound)
-    (λ y. ⊎-elim (λ x. ⊎-elim (λ f. true≢false (sym inner ∙ f)) (λ alone. omega (arith, more)) (x .1)) (λ x. omega (arith, x .2)) y)
+    (λ y. ⊎-elim (λ x. some-cell (t .keys) (getD ls j 0) (getD vs j 0) inner more (x .1)) (λ x. omega (arith, x .2)) y)
     (slabs-refused t (getD ls j 0) (getD vs j 0) s k says)
 
 pub slabs-of-trees : SlabsOfTrees
 slabs-of-trees t =
     record {
+      answered = slabs-answered t;
       refused = slabs-refused t;
       order = λ L v s first last. spans-order t;
       each = spans-each t;

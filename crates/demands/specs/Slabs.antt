@@ -38,6 +38,8 @@ WhyNot t L v s k =
 
 -- Of any tree, sound or not.
 pub record Spans (t : Tree) : Type 0 where
+  -- Slabs are answered only where there is no such reason, and else refused by the first of them.
+  pub answered : (L v s first last : ℕ) → SlabsSays t L v s (Reach first last) → Sound t × (NoCell (t .keys) L v → ⊥) × (s ≤ 15)
   pub refused : (L v s k : ℕ) → SlabsSays t L v s (Refused k) → WhyNot t L v s k
   -- The first slab is no higher than the last, and there are 2^s.
   pub order : (L v s first last : ℕ) → SlabsSays t L v s (Reach first last) → (first ≤ last) × (last < 2 ^ s)

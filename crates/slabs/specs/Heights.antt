@@ -27,7 +27,7 @@ NoHigher j k = heightOver j * heightUnder k ≤ heightOver k * heightUnder j
 abbrev pub NoLower : ℕ → ℕ → Type 0
 NoLower j k = NoHigher k j
 
--- k is one of the nodes, and against each of them it is so.
+-- k is one of the nodes, and stands to each of them as `so` says.
 pub record Outermost (so : ℕ → ℕ → Type 0) (keys : List ℕ) (k : ℕ) : Type 0 where
   pub one-of : In k keys
   pub against : (j : ℕ) → In j keys → so k j
@@ -62,7 +62,7 @@ OfCell (tried.Keys n) keys s (Reach first last) = (s ≤ limit) × Reaches keys 
 abbrev pub SlabsSays : Tree → ℕ → ℕ → ℕ → SlabsAnswer → Type 0
 SlabsSays t L v s r = (c : Dual) × DualSays t L v (c .keys) (c .distances) (c .places) (c .tried) × OfCell (c .tried) (c .keys) s r
 
--- Of a tree that is trusted to be sound, refusals 4, 5: the cell is the one that `dual_cell_trusting` answers of the same nodes with no distances, of which its
+-- Of a tree that is trusted to be sound, refusals 4, 5: the cell is the one that `dual_cell_trusting` answers of the same nodes with no distances, on which its
 -- keys don't depend.
 abbrev pub TrustingSays : Nodes → ℕ → ℕ → ℕ → SlabsAnswer → Type 0
 TrustingSays ns L v s r = (c : Dual) × CellTrustingSays ns [] L v (c .keys) (c .distances) (c .places) (c .tried) × OfCell (c .tried) (c .keys) s r

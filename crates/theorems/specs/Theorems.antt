@@ -316,7 +316,11 @@ module _ (t : Tree) (sound : Sound t) (D : ℕ) (deep : D ≤ deepest) (fine : (
 
 -- ---- the slabs that a dual cell reaches
 
--- They are refused for three reasons, in this order: the tree isn't sound; it isn't an inner vertex at that level, or the tree is the root alone; the exponent is above 15.
+-- They are answered only where the tree is sound, it is an inner vertex at that level and the tree isn't the root alone, and the exponent is at most 15;
+pub slabs-answered : (t : Tree) (L v s first last : ℕ) → SlabsSays t L v s (slabs.Reach first last) → Sound t × (NoCell (t .keys) L v → ⊥) × (s ≤ 15)
+slabs-answered t = slabs-of-trees t .answered
+
+-- else they are refused by the first of these that fails.
 pub slabs-refused : (t : Tree) (L v s k : ℕ) → SlabsSays t L v s (slabs.Refused k)
     → ((Sound t → ⊥) × (k ≡ 11))
     ⊎ ((Sound t × NoCell (t .keys) L v × (k ≡ 4))
