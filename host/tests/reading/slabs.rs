@@ -80,18 +80,22 @@ fn some_vertex(given: &Given, listed: &[(u64, u32)], random: &mut Random) -> (u6
     }
 }
 
-/// Both calls for a cell at every exponent: the model's heights are the same for all. And what holds of any cell, or of a listed one.
+/// The call that trusts the tree at every exponent, since the model's heights are the same for all; the one that goes over the whole tree
+/// first at one of them, in turn. And what holds of any cell, or of a listed one.
 fn every_exponent(given: &Given, (vertex, level): (u64, u32), is_listed: bool, counts: &mut Counts) {
     let cell = given.reading.dual_cell(vertex, level).expect("an inner vertex");
     let reach = cell.reach();
     counts.count_ends(cell.keys, &reach);
     let is_even = cell.keys.iter().all(|&key| level_at(Height::of_centre(key)) == level as usize);
     let mut is_apart = false;
+    let checked_at = (counts.cells() % 16) as u32;
     for exponent in EXPONENTS {
         let slabs = reach.slabs(exponent).expect("an exponent up to 15");
         let told = || format!("{vertex:#x}, {level}, {exponent} of {:?}", given.tables.keys);
         let expected = out_of(Ok(slabs));
-        assert_eq!(given.ask_slabs(vertex, level, exponent), expected, "{}", told());
+        if exponent == checked_at {
+            assert_eq!(given.ask_slabs(vertex, level, exponent), expected, "{}", told());
+        }
         assert_eq!(given.ask_slabs_trusting(vertex, level, exponent), expected, "trusting {}", told());
         assert!(slabs.first <= slabs.last && slabs.last < 1 << exponent, "{}", told());
         assert!(!is_even || exponent > level || slabs.last - slabs.first <= 1, "one layer of cells: {}", told());
