@@ -1,16 +1,18 @@
 -- The order of centre heights, and that rounding down to slabs keeps it. Assumes nothing.
 use Prim.Native.Nat.{ℕ, _+_, _-_, _*_, _/_, _%_, _^_, _≤_, _<_}
 use mathlib.Core.Path.{_≡_, sym, ap, _∙_}
+use mathlib.Core.Bool.{Bool}
 use mathlib.Core.Logic.{_⊎_}
 use native.Mathlib.Nat.{mul-comm, mul-assoc, mul-right-comm, mul-le-mul-right, le-of-mul-le-mul-right, le-div-iff-mul-le, div-mul-le-self, div-lt-iff-lt-mul, mul-lt-mul-of-pos-right, mul-div-mul-right, mul-div-cancel}
 use native.Mathlib.Omega.{arith}
+use borrow.Author.Tests.{le-leb, lt-leb}
 use lib.Pow.{pow-add, pow-pos, pow-mono, shl-exact}
 use Rattle.morton.specs.Field.{coord}
-use Rattle.morton.specs.Level.{level}
+use Rattle.morton.specs.Level.{limit, level, if₀}
 use Rattle.morton.proofs.Fields.{coord-lt}
 use Rattle.morton.proofs.Levels.{level-le}
 use Rattle.tree.proofs.Lists.{order}
-use Rattle.slabs.specs.Heights.{heightOver, heightUnder, NoHigher, slabOf}
+use Rattle.slabs.specs.Heights.{heightOver, heightUnder, NoHigher, slabOf, slabAt}
 
 pub under-pos : (k : ℕ) → 0 < heightUnder k
 under-pos k = pow-pos (level k + 1)
@@ -70,3 +72,11 @@ shifted-up s k h g =
     ∙ ap (λ (x : ℕ). x / heightUnder k)
     (mul-assoc (heightOver k) (2 ^ (s - (level k + 1))) (heightUnder k)
     ∙ ap (λ (x : ℕ). heightOver k * x) (sym (pow-add 2 (s - (level k + 1)) (level k + 1)) ∙ ap (λ (x : ℕ). 2 ^ x) e))
+
+-- ---- at any exponent
+
+pub at-above : (s k : ℕ) → limit < s → 0 ≡ slabAt s k
+at-above s k h = sym (ap (λ (r : Bool). if₀ r (slabOf s k) 0) (lt-leb s limit h))
+
+pub at-within : (s k r : ℕ) → s ≤ limit → r ≡ slabOf s k → r ≡ slabAt s k
+at-within s k r h e = e ∙ sym (ap (λ (r : Bool). if₀ r (slabOf s k) 0) (le-leb s limit h))

@@ -2,8 +2,9 @@
 use Prim.Native.Nat.{ℕ, _+_, _*_, _/_, _^_, _≤_, _<_}
 use mathlib.Core.Path.{_≡_}
 use mathlib.Core.List.{List, []}
+use lib.Dec.{leb}
 use Rattle.morton.specs.Field.{coord}
-use Rattle.morton.specs.Level.{limit, level}
+use Rattle.morton.specs.Level.{limit, level, if₀}
 use Rattle.tree.specs.Tree.{Tree, In}
 use Rattle.tree.specs.Down.{Nodes}
 use Rattle.dual.specs.declared.Dual.{Dual}
@@ -42,6 +43,10 @@ Highest keys k = Outermost NoLower keys k
 -- With slab exponent s the cube has 2^s slabs along z. The slab of a node: its centre height multiplied by 2^s, rounded down.
 abbrev pub slabOf : ℕ → ℕ → ℕ
 slabOf s k = heightOver k * 2 ^ s / heightUnder k
+
+-- The same for every s: above the limit, 0.
+abbrev pub slabAt : ℕ → ℕ → ℕ
+slabAt s k = if₀ (leb s limit) (slabOf s k) 0
 
 -- A cell reaches from the lowest to the highest of its eight node centres: first and last slab are those of the two.
 pub record Reaches (keys : List ℕ) (s first last : ℕ) : Type 0 where

@@ -6,7 +6,7 @@ ghost use Prim.Native.Nat.{_≤_, min, max};
 ghost use Rattle.morton.specs.Level.{limit};
 ghost use Rattle.tree.specs.Tree.{treeOf};
 ghost use Rattle.tree.specs.Down.{nodesOf};
-ghost use Rattle.slabs.specs.Heights.{slabOf, ReachSays, SlabsSays, TrustingSays};
+ghost use Rattle.slabs.specs.Heights.{slabOf, slabAt, ReachSays, SlabsSays, TrustingSays};
 
 // The first and the last slab that a cell reaches, from 0 on, or the number of the refusal.
 pub enum SlabsAnswer {
@@ -26,6 +26,16 @@ fn slab_of(key: u64, exponent: u32) -> u32
         return over >> (under - exponent);
     }
     over << (exponent - under)
+}
+
+// The same at any exponent, 0 above the limit, for one who goes over many nodes.
+pub fn slab_at(key: u64, exponent: u32) -> u32
+    ensures { λ r. ⌜ r ≡ slabAt exponent key ⌝ }
+{
+    if exponent > morton::LIMIT {
+        return 0;
+    }
+    slab_of(key, exponent)
 }
 
 fn lesser(a: u32, b: u32) -> u32

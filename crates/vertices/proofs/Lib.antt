@@ -13,3 +13,4 @@ pub mod Root
 pub mod Rounds
 pub mod Linear
 pub mod One
+pub mod Batches

@@ -137,6 +137,11 @@ module _ (n : Nodes) where
   of-spots (s ∷ ss) a (suc j) h =
       subst (Placed n (getD (levelsOf ss) j 0) (getD (verticesOf ss) j 0)) (sym (eight-later s (placesOf n ss) j)) (of-spots ss (a .1) j (omega arith))
 
+  -- of all
+  pub spots-right : (j : ℕ) → j < length (spotsOf n)
+      → Placed n (getD (levelsOf (spotsOf n)) j 0) (getD (verticesOf (spotsOf n)) j 0) (placesAt j (placesOf n (spotsOf n)))
+  spots-right = of-spots (spotsOf n) rounds
+
   -- of one call
   pub cells-right : (from : ℕ) (was left : Cells) (k : ℕ) → CellsSays n from was left k → (j : ℕ) → j < k
       → Placed n (getD (left .levels) j 0) (getD (left .vertices) j 0) (placesAt j (left .places))
