@@ -1,0 +1,2 @@
+-- What the contracts of `mittenhelm_lifetimes` cite.
+pub mod Most
