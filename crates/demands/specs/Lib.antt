@@ -3,6 +3,7 @@ pub mod Run
 pub mod Demands
 pub mod Reading
 pub mod Slabs
+pub mod Lifetimes
 pub mod Rooms
 pub mod Most
 pub mod Batches

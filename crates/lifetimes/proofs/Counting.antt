@@ -17,7 +17,7 @@ use Rattle.tree.specs.Down.{Nodes}
 use Rattle.tree.proofs.Lists.{order}
 use Rattle.lifetimes.specs.Needed.{GreatestOf, howMany, neededAt, countAt, Counts}
 use Rattle.lifetimes.specs.Steps.{Differs, startsAt, endsAt, most, Counted, SpansLeft, ReportLeft}
-use Rattle.lifetimes.proofs.Numbers.{same}
+use Rattle.lifetimes.proofs.HowMany.{same, passed, failed, at-most, alike}
 
 -- ---- tests
 
@@ -36,31 +36,6 @@ one t p = simp p
 
 none : (t : Bool) → t ≡ false → cond {A = ℕ} t 1 0 ≡ 0
 none t p = simp p
-
--- ---- how many pass
-
-module _ (t : ℕ → Bool) (i : ℕ) where
-  pub passed : t i ≡ true → howMany t (i + 1) ≡ howMany t i + 1
-  unfolding howMany
-  passed p = rw (add-one i, p)
-
-  pub failed : t i ≡ false → howMany t (i + 1) ≡ howMany t i
-  unfolding howMany
-  failed p = rw (add-one i, p) (omega arith)
-
-pub at-most : (t : ℕ → Bool) (n : ℕ) → howMany t n ≤ n
-unfolding howMany
-at-most t zero = omega arith
-at-most t (suc n) = go (t n) (at-most t n)
-  where
-    go : (b : Bool) → howMany t n ≤ n → howMany t n + cond b 1 0 ≤ suc n
-    go true h = omega arith
-    go false h = omega arith
-
-pub alike : (s t : ℕ → Bool) (n : ℕ) → ((i : ℕ) → i < n → s i ≡ t i) → howMany s n ≡ howMany t n
-unfolding howMany
-alike s t zero e = refl
-alike s t (suc n) e = ap₂ (λ (x : ℕ) (b : Bool). x + cond b 1 0) (alike s t n (λ i h. e i (omega arith))) (e n (omega arith))
 
 -- ---- a table filled
 

@@ -1,15 +1,16 @@
 -- Least and greatest so far, and what a cell adds to the spans of its leaves. Assumes nothing.
-use Prim.Native.Nat.{ℕ, zero, suc, _+_, _-_, _*_, _/_, _%_, _≤_, _<_, min, max}
+use Prim.Native.Nat.{ℕ, _+_, _-_, _*_, _%_, _≤_, _<_, min, max}
 use mathlib.Core.Path.{_≡_, refl, sym, _∙_, ap, subst}
-use mathlib.Core.List.{List, [], _++_, append-nil, append-assoc}
+use mathlib.Core.List.{List}
 use mathlib.Core.Logic.{_⊎_, inl, inr, ⊎-elim}
 use native.Mathlib.Omega.{arith}
-use lib.ListN.{length, getD, set, take, drop, length-set, length-append, length-take, length-drop, List·getD-append}
-use lib.Seq.{getD-set-same, getD-set-other, getD-take, getD-drop, getD-append-add, take-add}
+use lib.ListN.{length, getD, set, length-set}
+use lib.Seq.{getD-set-same, getD-set-other}
 use Rattle.tree.proofs.Lists.{order}
-use Rattle.lifetimes.specs.Trusted.{leavesOf, numberOf, LeafAt, Beside}
-use Rattle.lifetimes.specs.Steps.{upper, lower, slotOf, Numbering, Ready, Finds, Edge, NoMore, NoLess, Meets, MeetingSays, Among, Pulled, PullSays, Widened, Spanned, Widens}
-use Rattle.lifetimes.proofs.Numbers.{same, leaf-one, slot-inside}
+use Rattle.lifetimes.specs.Trusted.{leavesOf, LeafAt}
+use Rattle.lifetimes.specs.Steps.{upper, lower, Finds, Edge, NoMore, NoLess, Meets, MeetingSays, Among, Pulled, PullSays, Widened}
+use Rattle.lifetimes.proofs.HowMany.{same}
+use Rattle.lifetimes.proofs.Numbers.{leaf-one}
 
 -- ---- one lemma for least and greatest
 

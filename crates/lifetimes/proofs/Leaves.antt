@@ -1,14 +1,12 @@
 -- Where the leaves of a sound tree stand among its nodes: how many childless nodes come before one is its place in the leaf table. Assumes nothing.
 use Prim.Native.Nat.{ℕ, zero, suc, _+_, _*_, _^_, _≤_, _<_}
 use mathlib.Core.Path.{_≡_, sym, _∙_, ap, subst, subst₂}
-use mathlib.Core.Bool.{Bool, cond}
 use mathlib.Core.Logic.{_⊎_, inl, inr, ⊎-elim}
 use mathlib.Core.List.{List}
 use native.Mathlib.Decide.{decLt, ℕ-discrete}
 use native.Mathlib.Nat.{min-eq-left}
 use native.Mathlib.Omega.{arith}
 use lib.ListN.{length, getD}
-use borrow.Author.Tests.{eq-eqb, ne-eqb}
 use Rattle.morton.specs.Level.{limit}
 use Rattle.tree.specs.Tree.{Tree, StandsAt, In, NoChild, Sound}
 use Rattle.tree.proofs.Down.{sound-few}
@@ -16,20 +14,8 @@ use Rattle.tree.proofs.Finding.{nodes}
 use Rattle.tree.proofs.Lists.{order, in-at, in-cast, stands-in, ascending-place}
 use Rattle.tree.proofs.Pass.{Walked, start, all-eight, not-too-deep, leaf-next, no-more-keys, no-more-leaves, first-here, first-none, after-split, after-leaf}
 use Rattle.lifetimes.specs.Needed.{howMany}
-use Rattle.lifetimes.specs.Trusted.{nodesIn, leavesOf, childless, numberOf, LeafAt}
-
--- ---- counting childless nodes
-
-module _ (firsts : List ℕ) (p : ℕ) where
-  more : {r : Bool} → childless firsts p ≡ r → numberOf firsts (suc p) ≡ numberOf firsts p + cond r 1 0
-  unfolding howMany
-  more e = ap (λ (r : Bool). numberOf firsts p + cond r 1 0) e
-
-  pub number-leaf : getD firsts p 0 ≡ 0 → numberOf firsts (suc p) ≡ numberOf firsts p + 1
-  number-leaf e = more (eq-eqb (getD firsts p 0) 0 e)
-
-  pub number-split : (getD firsts p 0 ≡ 0 → ⊥) → numberOf firsts (suc p) ≡ numberOf firsts p
-  number-split e = more (ne-eqb (getD firsts p 0) 0 e) ∙ omega arith
+use Rattle.lifetimes.specs.Trusted.{nodesIn, leavesOf, numberOf, LeafAt}
+use Rattle.lifetimes.proofs.Numbers.{number-leaf, number-other}
 
 stands-or-not : (ks : List ℕ) (p k : ℕ) → StandsAt ks p k ⊎ (StandsAt ks p k → ⊥)
 stands-or-not ks p k =
@@ -66,7 +52,7 @@ module _ (t : Tree) (S : Sound t) where
           let top : getD (t .keys) i 0 < 8 ^ limit =
           ⊎-elim (λ g. g) (λ g. absurd (not-too-deep {d = t .distances} W S s g)) (order (getD (t .keys) i 0) (8 ^ limit)) in (
             c + 8,
-            subst₂ (λ (j m : ℕ). Walked (t .keys) (t .leaves) (t .firsts) j (c + 8) m) one (sym (number-split (t .firsts) i (not-first i h (c, W) s)))
+            subst₂ (λ (j m : ℕ). Walked (t .keys) (t .leaves) (t .firsts) j (c + 8) m) one (sym (ap (numberOf (t .firsts)) (sym one) ∙ number-other (t .firsts) i (not-first i h (c, W) s)))
                 (after-split W l top (all-eight {d = t .distances} W S l s) (first-here {d = t .distances} W S l s)),
           )
 
@@ -74,7 +60,7 @@ module _ (t : Tree) (S : Sound t) where
       leaf n =
           let z : getD (t .firsts) i 0 ≡ 0 = first-none {d = t .distances} W S l n in (
             c,
-            subst₂ (λ (j m : ℕ). Walked (t .keys) (t .leaves) (t .firsts) j c m) one (sym (number-leaf (t .firsts) i z))
+            subst₂ (λ (j m : ℕ). Walked (t .keys) (t .leaves) (t .firsts) j c m) one (sym (ap (numberOf (t .firsts)) (sym one) ∙ number-leaf (t .firsts) i z))
                 (after-leaf W l (leaf-next {d = t .distances} W S l n) z),
           )
 

@@ -1,4 +1,5 @@
 -- The laws behind `lifetimes`.
+pub mod HowMany
 pub mod Numbers
 pub mod Edges
 pub mod Spanning

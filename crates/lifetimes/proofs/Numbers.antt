@@ -1,14 +1,10 @@
 -- The numbers and slabs of the leaves, as they are taken down. Assumes nothing.
-use Prim.Native.Nat.{ℕ, zero, suc, _+_, _-_, _*_, _/_, _%_, _^_, _≤_, _<_, min}
+use Prim.Native.Nat.{ℕ, zero, suc, _+_, _-_, _*_, _%_, _^_, _≤_, _<_, min}
 use mathlib.Core.Path.{_≡_, refl, sym, _∙_, ap, subst}
-use mathlib.Core.Bool.{Bool, true, false, cond}
-use mathlib.Core.List.{List, []}
-use mathlib.Core.Logic.{_⊎_, inl, inr, ⊎-elim, by-cases}
-use native.Mathlib.Numerals.{add-one}
-use native.Mathlib.Decide.{ℕ-discrete}
+use mathlib.Core.List.{List}
+use mathlib.Core.Logic.{_⊎_, inl, inr, ⊎-elim}
 use native.Mathlib.Omega.{arith}
 use borrow.Author.Tests.{eq-eqb, ne-eqb}
-use lib.Dec.{eqb}
 use lib.Pow.{pow-mono}
 use lib.ListN.{length, getD, set, replicate, length-set, length-replicate, getD-replicate}
 use lib.Seq.{getD-set-same, getD-set-other, set-out}
@@ -19,21 +15,17 @@ use Rattle.slabs.specs.Heights.{slabOf, slabAt}
 use Rattle.slabs.proofs.Order.{slab-lt, at-within}
 use Rattle.lifetimes.specs.Needed.{howMany}
 use Rattle.lifetimes.specs.Trusted.{nodesIn, leavesOf, childless, numberOf, LeafAt}
-use Rattle.lifetimes.specs.Steps.{upper, lower, Upto, slotOf, early, Numbering, Numbered, PutLeaf, Finds, Edge, Spanned, ownSlab, Prepared}
-
-pub same : (a b : ℕ) → (a ≡ b) ⊎ (a ≡ b → ⊥)
-same a b = by-cases (ℕ-discrete a b) (λ h. inl h) (λ h. inr h)
+use Rattle.lifetimes.specs.Steps.{upper, lower, slotOf, early, Numbering, PutLeaf, Finds, Prepared}
+use Rattle.lifetimes.proofs.HowMany.{same, passed, failed}
 
 -- ---- counting leaves
 
 module _ (fs : List ℕ) (p : ℕ) where
   pub number-leaf : getD fs p 0 ≡ 0 → numberOf fs (p + 1) ≡ numberOf fs p + 1
-  unfolding howMany
-  number-leaf e = rw (add-one, eq-eqb (getD fs p 0) 0 e)
+  number-leaf e = passed (childless fs) p (eq-eqb (getD fs p 0) 0 e)
 
   pub number-other : (getD fs p 0 ≡ 0 → ⊥) → numberOf fs (p + 1) ≡ numberOf fs p
-  unfolding howMany
-  number-other e = rw (add-one, ne-eqb (getD fs p 0) 0 e) (omega arith)
+  number-other e = failed (childless fs) p (ne-eqb (getD fs p 0) 0 e)
 
   number-next : numberOf fs p ≤ numberOf fs (p + 1)
   number-next = ⊎-elim (λ e. omega (arith, number-leaf e)) (λ e. omega (arith, number-other e)) (same (getD fs p 0) 0)

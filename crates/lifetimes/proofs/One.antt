@@ -1,7 +1,7 @@
 -- One answer only: two answers of a call that meet its promise are the same, and so are the tables. Of a sound tree both calls have the same. Assumes
 -- nothing.
 use Prim.Native.Nat.{ℕ, _^_, _≤_, _<_}
-use mathlib.Core.Path.{_≡_, sym, _∙_, subst, subst₂}
+use mathlib.Core.Path.{_≡_, sym, _∙_, subst₂}
 use mathlib.Core.Logic.{_⊎_, inl, inr, ⊎-elim}
 use mathlib.Core.List.{List}
 use native.Mathlib.Nat.{le-antisymm}
@@ -10,20 +10,18 @@ use lib.ListN.{length, getD}
 use lib.Seq.{ext-getD}
 use Rattle.morton.specs.Level.{limit}
 use Rattle.morton.proofs.One.{OnlyOne}
-use Rattle.tree.specs.Tree.{Tree, In, Sound}
+use Rattle.tree.specs.Tree.{Tree, Sound}
 use Rattle.tree.specs.Down.{Nodes}
 use Rattle.tree.proofs.Finding.{nodes}
 use Rattle.lifetimes.specs.declared.LifetimesAnswer.{LifetimesAnswer}
 use Rattle.lifetimes.specs.declared.LifetimesAnswer.the-variants.{Greatest, Refused}
 use Rattle.lifetimes.specs.Needed.{CellOf, LeastOf, GreatestOf, Counts, Reports, Room, stands, Reported, LifetimesSays}
 use Rattle.lifetimes.specs.Trusted.{nodesIn, leavesOf, Sharing, TrustedReport, TrustingSays}
+use Rattle.lifetimes.proofs.Counting.{greatest-one, count-one}
 use Rattle.lifetimes.proofs.Joining.{trusting-lifetimes}
 
 least-one : {Kind : ℕ → Type 0} {x y : ℕ} → LeastOf Kind x → LeastOf Kind y → x ≡ y
 least-one {x = x} {y = y} a b = le-antisymm (a .least y (b .one-of)) (b .least x (a .one-of))
-
-greatest-one : {Kind : ℕ → Type 0} {x y : ℕ} → GreatestOf Kind x → GreatestOf Kind y → x ≡ y
-greatest-one {x = x} {y = y} a b = le-antisymm (b .greatest x (a .one-of)) (a .greatest y (b .one-of))
 
 -- ---- what both calls report
 
@@ -56,10 +54,7 @@ module _ (s m : ℕ) (was : Reports) (From To : ℕ → ℕ → Type 0) where
       let l : a .lasts ≡ b .lasts =
       ext-getD 0 (a .lasts) (b .lasts) (a .as-many-lasts ∙ sym (b .as-many-lasts)) (λ i h. same i (omega (arith, a .as-many-lasts)) .1) in
       let n : Counts s (b .firsts) (b .lasts) (a .counts) most = subst₂ (λ (f l : List ℕ). Counts s f l (a .counts) most) f l (a .needed) in
-      let c : a .counts ≡ b .counts =
-      ext-getD 0 (a .counts) (b .counts) (n .as-many ∙ sym (b .needed .as-many))
-      (λ i h. let g : i < 2 ^ s = omega (arith, n .as-many) in n .each i g ∙ sym (b .needed .each i g)) in
-      let e = greatest-one (subst (λ (c : List ℕ). GreatestOf (λ x. In x c) most) c (n .greatest)) (b .needed .greatest) in
+      let (c, e) = count-one n (b .needed) in
       λ i. ((a .left-is ∙ (λ j. stands was (f j) (l j) (c j)) ∙ sym (b .left-is)) i, Greatest (e i))
     where
       same : (i : ℕ) → i < m → (getD (a .firsts) i 0 ≡ getD (b .firsts) i 0) × (getD (a .lasts) i 0 ≡ getD (b .lasts) i 0)

@@ -1,5 +1,5 @@
 -- The spans grow by the cells that are gone over. Assumes nothing.
-use Prim.Native.Nat.{ℕ, _+_, _-_, _*_, _/_, _^_, _≤_, _<_, min, max}
+use Prim.Native.Nat.{ℕ, _+_, _-_, _*_, _^_, _≤_, _<_}
 use mathlib.Core.Path.{_≡_, refl, sym, _∙_, ap, subst}
 use mathlib.Core.List.{List, [], _++_, append-nil, append-assoc}
 use mathlib.Core.Logic.{_⊎_, inl, inr, ⊎-elim}
@@ -14,9 +14,9 @@ use Rattle.vertices.specs.Walk.{spotsOf}
 use Rattle.vertices.specs.Cells.{placesOf}
 use Rattle.slabs.proofs.Order.{slab-lt}
 use Rattle.lifetimes.specs.Needed.{LeastOf, GreatestOf}
-use Rattle.lifetimes.specs.Trusted.{nodesIn, leavesOf, LeafAt, Beside, Sharing, Shared, Alone, TrustedSpans}
-use Rattle.lifetimes.specs.Steps.{upper, lower, slotOf, Numbering, Ready, Finds, Edge, LeastYet, GreatestYet, Meets, MeetingSays, Among, Pulled, Widened, Spanned, Widens, ownSlab, Prepared, Unpacked, AllUnpacked, Within, SpansLeft}
-use Rattle.lifetimes.proofs.Numbers.{same, leaf-one, slot-inside, slab-small}
+use Rattle.lifetimes.specs.Trusted.{nodesIn, leavesOf, LeafAt, Beside, Sharing, Shared, Alone}
+use Rattle.lifetimes.specs.Steps.{upper, lower, slotOf, Ready, Edge, Meets, MeetingSays, Among, Pulled, Widened, Spanned, Widens, ownSlab, Prepared, AllUnpacked, SpansLeft}
+use Rattle.lifetimes.proofs.Numbers.{leaf-one, slot-inside, slab-small}
 use Rattle.lifetimes.proofs.Edges.{Picking, downward, upward, edge-map, edge-pick}
 
 -- ---- one cell more

@@ -1,15 +1,15 @@
 -- Where the report stands in the tables that were lent. Assumes nothing.
-use Prim.Native.Nat.{ℕ, _+_, _%_, _*_, _^_, _≤_}
+use Prim.Native.Nat.{ℕ, _+_, _^_, _≤_}
 use mathlib.Core.Path.{_≡_, refl, sym, _∙_, ap, subst}
 use mathlib.Core.List.{List, _++_}
-use mathlib.Core.Logic.{inl, inr}
+use mathlib.Core.Logic.{inr}
 use native.Mathlib.Omega.{arith}
 use lib.ListN.{length, drop}
 use Rattle.morton.specs.Level.{limit}
 use Rattle.tree.specs.Down.{Nodes}
 use Rattle.vertices.specs.Listing.{written}
 use Rattle.lifetimes.specs.declared.LifetimesAnswer.the-variants.{Greatest, Refused}
-use Rattle.lifetimes.specs.Needed.{Reports, reportsOf, Room}
+use Rattle.lifetimes.specs.Needed.{reportsOf, Room}
 use Rattle.lifetimes.specs.Trusted.{nodesIn, leavesOf, TrustingSays}
 use Rattle.lifetimes.specs.Steps.{Within, SpansLeft, ReportLeft}
 

@@ -7,7 +7,7 @@ use native.Mathlib.Omega.{arith}
 use lib.ListN.{length, getD, set, length-set}
 use lib.Seq.{getD-set-same, getD-set-other}
 use Rattle.lifetimes.specs.Steps.{lower, Unpacked, AllUnpacked}
-use Rattle.lifetimes.proofs.Numbers.{same}
+use Rattle.lifetimes.proofs.HowMany.{same}
 
 pub record UnpackedTo (n : ℕ) (first last first' last' : List ℕ) : Type 0 where
   pub first-long : length first' ≡ length first

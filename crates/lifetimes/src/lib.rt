@@ -1,6 +1,6 @@
 // From which slab to which slab each leaf of a tree is needed, over all its dual cells, and how many leaves are needed at each slab. Ours: the Rust frees nothing.
 ghost use mathlib.Core.Path.{_≡_};
-ghost use Prim.Native.Nat.{_+_, _*_, _^_, _<_, _≤_, min, max};
+ghost use Prim.Native.Nat.{_+_, _*_, _^_, _<_, _≤_, min};
 ghost use lib.ListN.{length, getD, take, replicate};
 ghost use Rattle.morton.specs.Level.{limit};
 ghost use Rattle.tree.specs.Tree.{treeOf, Decides};
@@ -113,24 +113,6 @@ fn number_at(firsts: &[u16], nodes: usize, last: &[u32], place: usize) -> usize
 
 // ---- the cells
 
-fn lesser(a: u32, b: u32) -> u32
-    ensures { λ r. ⌜ r ≡ min a b ⌝ }
-{
-    if b < a {
-        return b;
-    }
-    a
-}
-
-fn greater(a: u32, b: u32) -> u32
-    ensures { λ r. ⌜ r ≡ max a b ⌝ }
-{
-    if a < b {
-        return b;
-    }
-    a
-}
-
 // Which leaves a cell has, whose eight places stand in a table, and from which slab to which they lie.
 fn leaves_of_cell(
     firsts: &[u16],
@@ -153,8 +135,8 @@ fn leaves_of_cell(
         numbers[o] = number;
         if number < first.len() {
             let slab = first[number] / 65536;
-            low = lesser(low, slab);
-            high = greater(high, slab);
+            low = slabs::lesser(low, slab);
+            high = slabs::greater(high, slab);
             o += 1;
         } else {
             o += 1;
@@ -170,9 +152,9 @@ fn pull(first: &mut [u32], last: &mut [u32], number: usize, low: u32, high: u32)
 {
     if number < first.len() {
         let a = first[number];
-        first[number] = a - a % 65536 + lesser(a % 65536, low);
+        first[number] = a - a % 65536 + slabs::lesser(a % 65536, low);
         let b = last[number];
-        last[number] = b - b % 65536 + greater(b % 65536, high);
+        last[number] = b - b % 65536 + slabs::greater(b % 65536, high);
     }
 }
 
@@ -307,7 +289,7 @@ fn sum_up(first: &[u32], last: &[u32], needed: &mut [u32]) -> u32
     while slab < needed.len() {
         here = std::num::wrapping_add_u32(here, needed[slab]);
         needed[slab] = here;
-        top = greater(top, here);
+        top = slabs::greater(top, here);
         slab += 1;
     }
     top

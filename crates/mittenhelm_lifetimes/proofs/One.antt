@@ -1,6 +1,6 @@
 -- One answer only: of each exported call, what is returned, the out parameter and the tables are settled by its promise. Assumes nothing.
 use Prim.Native.Nat.{ℕ}
-use mathlib.Core.Path.{_≡_, sym, subst}
+use mathlib.Core.Path.{_≡_, subst}
 use Rattle.morton.proofs.One.{OnlyOne, both}
 use Rattle.tree.specs.Tree.{Tree}
 use Rattle.tree.specs.Down.{Nodes}

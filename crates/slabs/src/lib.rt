@@ -38,7 +38,7 @@ pub fn slab_at(key: u64, exponent: u32) -> u32
     slab_of(key, exponent)
 }
 
-fn lesser(a: u32, b: u32) -> u32
+pub fn lesser(a: u32, b: u32) -> u32
     ensures { λ r. ⌜ r ≡ min a b ⌝ }
 {
     if b < a {
@@ -47,7 +47,7 @@ fn lesser(a: u32, b: u32) -> u32
     a
 }
 
-fn greater(a: u32, b: u32) -> u32
+pub fn greater(a: u32, b: u32) -> u32
     ensures { λ r. ⌜ r ≡ max a b ⌝ }
 {
     if a < b {

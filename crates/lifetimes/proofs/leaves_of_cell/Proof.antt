@@ -1,6 +1,6 @@
 -- `leaves_of_cell` meets its contract: a turn of the loop takes one entry more. Assumes nothing.
 use Prim.Native.Nat.{_-_, _≤_}
-use mathlib.Core.Path.{_≡_, refl, sym, _∙_}
+use mathlib.Core.Path.{refl}
 use borrow.Author.Needs.{needs}
 use native.Mathlib.Omega.{arith}
 use Rattle.lifetimes.specs.Steps.{MeetingSays}

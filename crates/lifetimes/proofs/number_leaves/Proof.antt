@@ -1,9 +1,9 @@
 -- `number_leaves` meets its contract: a turn of the loop takes one place more. Assumes nothing.
-use Prim.Native.Nat.{_-_, _≤_}
-use mathlib.Core.Path.{_≡_, refl, sym, _∙_}
+use Prim.Native.Nat.{_-_}
+use mathlib.Core.Path.{sym, _∙_}
 use borrow.Author.Needs.{needs}
 use native.Mathlib.Omega.{arith}
-use Rattle.lifetimes.proofs.Numbers.{NumberedTo, numbered-none, numbered-leaf, numbered-other, prepared, slab-small}
+use Rattle.lifetimes.proofs.Numbers.{NumberedTo, numbered-none, numbered-leaf, numbered-other, prepared}
 use mathlib.Core.Path.{ap}
 use lib.ListN.{length, length-replicate}
 use Rattle.lifetimes.proofs.Numbers.{slot-inside, number-small, slab-at-is, slab-at-small}
