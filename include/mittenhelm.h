@@ -38,7 +38,8 @@ enum mittenhelm_refusal {
     MITTENHELM_NOT_FITTING = 10,  /* the state doesn't fit the tables */
     MITTENHELM_NOT_SOUND = 11,    /* not a sound tree */
     MITTENHELM_LIST_FULL = 12,    /* start place past the end of either table, or fewer places left than vertices */
-    MITTENHELM_NOT_FINITE = 16    /* the distance is infinite or NaN */
+    MITTENHELM_NOT_FINITE = 16,   /* the distance is infinite or NaN */
+    MITTENHELM_REPORT_SHORT = 17  /* a report table too short */
 };
 
 /* The level of any number: 0 for 0, else the largest L with 8^L at most the number. */
@@ -178,6 +179,29 @@ uint32_t mittenhelm_slabs(
     const uint16_t *firsts, uint64_t firsts_length, const uint64_t *leaves, uint64_t leaves_length,
     uint64_t vertex, uint32_t level, uint32_t exponent, uint32_t *first, uint32_t *last);
 
+/* Reports from which slab to which each leaf is needed, of 2^exponent slabs (0 to 15) along z, into three tables that the caller owns. A
+ * cell that is listed, which is a vertex of mittenhelm_list with its level, has a leaf if an entry of its dual cell is that leaf. A leaf's
+ * first slab is the least first slab, as mittenhelm_slabs answers it, of all listed cells that have it, its last slab the greatest last.
+ * It is needed at every slab from its first to its last: a host that has its data there by the first, and gives it up behind the last,
+ * misses none that a cell reads.
+ *
+ * `first_slabs` and `last_slabs` take one number for each leaf, in the order of the leaf table; `needed` one for each slab, which is how
+ * many leaves are needed at it; and `greatest` the greatest of those. Places behind these stay as they were. The tree that is only the
+ * root lists no cell: its leaf is never needed, from 1 to 0, and all numbers are 0.
+ *
+ * `first_slabs` and `last_slabs` may lie in the memory of the build's queue. It is free once the build is finished, and room for n nodes
+ * gives it (7n + 1)/8 places of 8 bytes, which is exactly the room for both: 8 bytes a leaf. Refusals 11, 5, 17 (fewer places for first or
+ * last slabs than there are leaves, or fewer for `needed` than there are slabs).
+ *
+ * An example: in the tree of nine nodes above, one cell has all eight leaves, and of four slabs it reaches 1 to 3. So each leaf is needed
+ * from 1 to 3, the numbers for the four slabs are 0, 8, 8 and 8, and the greatest is 8. */
+uint32_t mittenhelm_lifetimes(
+    const uint64_t *keys, uint64_t keys_length, const float *distances, uint64_t distances_length,
+    const uint16_t *firsts, uint64_t firsts_length, const uint64_t *leaves, uint64_t leaves_length,
+    uint32_t exponent,
+    uint32_t *first_slabs, uint64_t first_slabs_length, uint32_t *last_slabs, uint64_t last_slabs_length,
+    uint32_t *needed, uint64_t needed_length, uint32_t *greatest);
+
 /* Each call above that reads a tree first goes over all of it, to see that it is sound. A host that reads much checks once with
  * mittenhelm_sound, keeps the tables as they are, and then calls these, each of which is given only the tables that it reads. Of a
  * sound tree each answers exactly as the call above that it is named for; mittenhelm_cells_trusting, which has none, goes over the
@@ -225,6 +249,20 @@ uint32_t mittenhelm_dual_cell_trusting(
 uint32_t mittenhelm_slabs_trusting(
     const uint64_t *keys, uint64_t keys_length, const uint16_t *firsts, uint64_t firsts_length,
     uint64_t vertex, uint32_t level, uint32_t exponent, uint32_t *first, uint32_t *last);
+
+/* As mittenhelm_lifetimes of a tree that was checked before, of which the keys and first children are given. Refusals 5, 17.
+ *
+ * Of tables that hold no sound tree: let n be the number of keys, but at most 65,537, and m be n - (n - 1)/8, the quotient rounded down, or
+ * 0 without keys. The leaves are the first m of those below place n that have no first child: 0 beside the key, or nothing, past the end of
+ * that table. The first m places of the report are written; 1 and 0 where there are fewer such leaves, or no cell has the leaf. The cells are
+ * those that mittenhelm_cells_trusting hands out. Of the eight places of a cell only leaves count: it has these, and reaches from the lowest
+ * to the highest of their slabs. The slab of a place is that of the height (2c + 1) / 2^(L+1), where L is the level of the number that stands
+ * there for a key, and c is made of L of its bits, those at 2, 5, 8 and so on. */
+uint32_t mittenhelm_lifetimes_trusting(
+    const uint64_t *keys, uint64_t keys_length, const uint16_t *firsts, uint64_t firsts_length,
+    uint32_t exponent,
+    uint32_t *first_slabs, uint64_t first_slabs_length, uint32_t *last_slabs, uint64_t last_slabs_length,
+    uint32_t *needed, uint64_t needed_length, uint32_t *greatest);
 
 #ifdef __cplusplus
 }

@@ -141,6 +141,24 @@ pub mod raw {
             first: &mut u32,
             last: &mut u32,
         ) -> u32;
+        pub fn mittenhelm_lifetimes(
+            keys: *const u64,
+            keys_length: u64,
+            distances: *const f32,
+            distances_length: u64,
+            firsts: *const u16,
+            firsts_length: u64,
+            leaves: *const u64,
+            leaves_length: u64,
+            exponent: u32,
+            first_slabs: *mut u32,
+            first_slabs_length: u64,
+            last_slabs: *mut u32,
+            last_slabs_length: u64,
+            needed: *mut u32,
+            needed_length: u64,
+            greatest: &mut u32,
+        ) -> u32;
         pub fn mittenhelm_look_up_trusting(
             keys: *const u64,
             keys_length: u64,
@@ -204,6 +222,20 @@ pub mod raw {
             first: &mut u32,
             last: &mut u32,
         ) -> u32;
+        pub fn mittenhelm_lifetimes_trusting(
+            keys: *const u64,
+            keys_length: u64,
+            firsts: *const u16,
+            firsts_length: u64,
+            exponent: u32,
+            first_slabs: *mut u32,
+            first_slabs_length: u64,
+            last_slabs: *mut u32,
+            last_slabs_length: u64,
+            needed: *mut u32,
+            needed_length: u64,
+            greatest: &mut u32,
+        ) -> u32;
     }
 }
 
@@ -233,6 +265,7 @@ impl Refusal {
             11 => "not a sound tree",
             12 => "start place past the end of a table, or no room for all vertices",
             16 => "the distance is infinite or NaN",
+            17 => "a report table too short",
             _ => "a number that this wrapper doesn't know",
         }
     }
@@ -549,6 +582,17 @@ fn reached(slabs: impl FnOnce(&mut u32, &mut u32) -> u32) -> Result<RangeInclusi
     accepted(number, first..=last)
 }
 
+/// What a call for lifetimes answers that is handed the three tables with their lengths, and the place of the greatest number.
+fn reported(
+    [first, last, needed]: [&mut [u32]; 3],
+    lifetimes: impl FnOnce(*mut u32, u64, *mut u32, u64, *mut u32, u64, &mut u32) -> u32,
+) -> Result<u32, Refusal> {
+    let mut greatest = 0;
+    let [f, l, n] = [first.len(), last.len(), needed.len()].map(|length| length as u64);
+    let number = lifetimes(first.as_mut_ptr(), f, last.as_mut_ptr(), l, needed.as_mut_ptr(), n, &mut greatest);
+    accepted(number, greatest)
+}
+
 /// No tree of so many nodes has more vertices: each split adds at most the middles of its cell, of six faces and of twelve edges.
 pub fn most_vertices(nodes: usize) -> usize {
     19 * (nodes.saturating_sub(1) / 8)
@@ -604,6 +648,20 @@ impl<'a> Tree<'a> {
     #[inline]
     pub fn slabs(&self, vertex: u64, level: u32, exponent: u32) -> Result<RangeInclusive<u32>, Refusal> {
         reached(|first, last| with_tree!(mittenhelm_slabs, self, vertex, level, exponent, first, last))
+    }
+
+    /// Writes from which slab to which each leaf is needed, of 2^exponent slabs (0 to 15) along z, in the order of the leaves: from the
+    /// least first slab to the greatest last one of all listed cells whose `dual_cell` has it. Where none has, which is so of the root
+    /// alone, these are 1 and 0. And for each slab how many leaves are needed at it; the answer is the greatest of those numbers. The first
+    /// two take a place for each leaf, the third one for each slab; further places stay as they were.
+    ///
+    /// An example: of the tree with the keys 1, 8, 9, .., 15 one cell has all eight leaves, and of four slabs it reaches 1 to 3. So each is
+    /// needed from 1 to 3, the numbers for the slabs are 0, 8, 8 and 8, and the answer is 8.
+    #[inline]
+    pub fn lifetimes(&self, exponent: u32, first: &mut [u32], last: &mut [u32], needed: &mut [u32]) -> Result<u32, Refusal> {
+        reported([first, last, needed], |first, f, last, l, needed, n, greatest| {
+            with_tree!(mittenhelm_lifetimes, self, exponent, first, f, last, l, needed, n, greatest)
+        })
     }
 }
 
@@ -663,6 +721,26 @@ impl<'a> SoundTree<'a> {
             with_tables!(mittenhelm_slabs_trusting, self.tree, [keys, firsts], vertex, level, exponent, first, last)
         })
     }
+
+    /// As `Tree::lifetimes`, without a check of the tree.
+    #[inline]
+    pub fn lifetimes(&self, exponent: u32, first: &mut [u32], last: &mut [u32], needed: &mut [u32]) -> Result<u32, Refusal> {
+        reported([first, last, needed], |first, f, last, l, needed, n, greatest| {
+            with_tables!(
+                mittenhelm_lifetimes_trusting,
+                self.tree,
+                [keys, firsts],
+                exponent,
+                first,
+                f,
+                last,
+                l,
+                needed,
+                n,
+                greatest
+            )
+        })
+    }
 }
 
 #[cfg(test)]
@@ -676,8 +754,9 @@ mod tests {
         assert_eq!(told(10), "refused 10: the state doesn't fit the tables");
         assert_eq!(told(11), "refused 11: not a sound tree");
         assert_eq!(told(16), "refused 16: the distance is infinite or NaN");
+        assert_eq!(told(17), "refused 17: a report table too short");
         assert!((1..=12).all(|number| !told(number).contains("doesn't know")));
-        for number in [13, 15, 99] {
+        for number in [13, 15, 18, 99] {
             assert_eq!(told(number), format!("refused {number}: a number that this wrapper doesn't know"));
         }
     }
