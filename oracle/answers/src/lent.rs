@@ -86,6 +86,11 @@ pub fn places_before(length: usize) -> Vec<u64> {
     (0..length as u64).map(|place| u64::MAX - place).collect()
 }
 
+/// The same of a report's slabs and numbers.
+pub fn report_before(length: usize) -> Vec<u32> {
+    (0..length as u32).map(|place| 0x0bad_0000 + place).collect()
+}
+
 /// No promise settles the bits of a NaN, which calls that trust a tree hand on: one stands for all.
 pub fn one_nan(bits: u32) -> u32 {
     if f32::from_bits(bits).is_nan() {

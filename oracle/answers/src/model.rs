@@ -2,6 +2,7 @@
 //! level, no logarithm, so that it shares no method with the library or the published text.
 
 pub mod build;
+pub mod lifetimes;
 pub mod reading;
 
 /// No cell key has a greater level.

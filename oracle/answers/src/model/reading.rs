@@ -15,7 +15,7 @@ pub struct Tables {
 }
 
 const GREATEST_LEVEL: u32 = 15;
-const GREATEST_EXPONENT: u32 = 15;
+pub(super) const GREATEST_EXPONENT: u32 = 15;
 
 /// What a lookup answers: both with the number of keys tried. A place is where in the node tables the node stands.
 #[derive(Clone, Copy, Debug, PartialEq, Eq)]
@@ -213,9 +213,15 @@ impl Height {
 
 impl DualCell {
     pub fn reach(&self) -> Reach {
-        let heights = self.keys.map(Height::of_centre);
-        let mut reach = Reach { lowest: heights[0], highest: heights[0] };
-        for height in heights {
+        Reach::of(&self.keys.map(Height::of_centre)).expect("eight heights")
+    }
+}
+
+impl Reach {
+    /// From the lowest to the highest of some heights; none, where there are none.
+    pub fn of(heights: &[Height]) -> Option<Self> {
+        let mut reach = heights.first().map(|&height| Reach { lowest: height, highest: height })?;
+        for &height in heights {
             if height.is_below(reach.lowest) {
                 reach.lowest = height;
             }
@@ -223,11 +229,9 @@ impl DualCell {
                 reach.highest = height;
             }
         }
-        reach
+        Some(reach)
     }
-}
 
-impl Reach {
     pub fn slabs(&self, exponent: u32) -> Answer<Slabs> {
         if exponent > GREATEST_EXPONENT {
             return Err(5);
