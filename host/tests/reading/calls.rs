@@ -2,11 +2,13 @@
 //! table must be the model's, the tree's tables as they were, and so what lies around them.
 
 use mittenhelm::raw::{
-    mittenhelm_cells_trusting, mittenhelm_dual_cell, mittenhelm_dual_cell_trusting, mittenhelm_list, mittenhelm_list_trusting,
-    mittenhelm_look_up, mittenhelm_look_up_trusting, mittenhelm_slabs, mittenhelm_slabs_trusting, mittenhelm_sound,
+    mittenhelm_cells_trusting, mittenhelm_dual_cell, mittenhelm_dual_cell_trusting, mittenhelm_lifetimes,
+    mittenhelm_lifetimes_trusting, mittenhelm_list, mittenhelm_list_trusting, mittenhelm_look_up, mittenhelm_look_up_trusting,
+    mittenhelm_slabs, mittenhelm_slabs_trusting, mittenhelm_sound,
 };
 use oracle_answers::inputs::Random;
-use oracle_answers::lent::{levels_before, one_nan, places_before, vertices_before, Fenced};
+use oracle_answers::lent::{levels_before, one_nan, places_before, report_before, vertices_before, Fenced};
+use oracle_answers::model::lifetimes::{Lifetimes, Needs};
 use oracle_answers::model::reading::{self, Descent, DualCell, Lookup, Reading, Slabs, Tables, Walk};
 use oracle_answers::model::{level, Answer};
 use oracle_answers::questions;
@@ -24,7 +26,7 @@ const UNTOUCHED_SLABS: [u32; 2] = [0xdead_beef, 0x0bad_cafe];
 /// How often each answer was seen.
 #[derive(Debug, Default)]
 pub struct Seen {
-    pub refused: [u64; 13],
+    pub refused: [u64; 18],
     pub sound: u64,
     pub unsound: u64,
     /// Lookups by the level that was asked for: which found the key itself, an ancestor, or nothing.
@@ -42,6 +44,8 @@ pub struct Seen {
     pub none_placed: u64,
     /// Cells with their slabs, by exponent.
     pub slabs: [u64; 16],
+    /// Reports of lifetimes, by exponent.
+    pub lifetimes: [u64; 16],
     /// What was told of trees that aren't sound.
     pub trusted: Trusted,
 }
@@ -49,7 +53,7 @@ pub struct Seen {
 /// What the trusting calls answered.
 #[derive(Debug, Default)]
 pub struct Trusted {
-    pub refused: [u64; 13],
+    pub refused: [u64; 18],
     /// Lookups: which found the key itself, an ancestor, or nothing.
     pub itself: u64,
     pub ancestor: u64,
@@ -63,16 +67,19 @@ pub struct Trusted {
     /// The slabs of such cells.
     pub whole_slabs: u64,
     pub empty_slabs: u64,
+    /// Reports of lifetimes: with leaves that are needed, and those where none is.
+    pub lifetimes: u64,
+    pub empty_lifetimes: u64,
 }
 
 impl Trusted {
-    /// Asserts that every kind of answer was seen so often, and of the refusals 1, 4, 5 and 12 alone.
+    /// Asserts that every kind of answer was seen so often, and of the refusals 1, 4, 5, 12 and 17 alone.
     pub fn assert_every_answer(&self, times: u64) {
         let Trusted { refused, itself, ancestor, nothing, lists, empty_lists, .. } = self;
-        let Trusted { whole_cells, empty_cells, whole_slabs, empty_slabs, .. } = self;
+        let Trusted { whole_cells, empty_cells, whole_slabs, empty_slabs, lifetimes, empty_lifetimes, .. } = self;
         let found = [itself, ancestor, nothing, lists, empty_lists, whole_cells, empty_cells, whole_slabs, empty_slabs];
-        assert!(found.iter().all(|&&seen| seen >= times), "{self:?}");
-        assert_refused(refused, times, &[1, 4, 5, 12], self);
+        assert!(found.iter().chain(&[lifetimes, empty_lifetimes]).all(|&&seen| seen >= times), "{self:?}");
+        assert_refused(refused, times, &[1, 4, 5, 12, 17], self);
     }
 
     fn count_lookup(&mut self, asked: u64, answer: Answer<Lookup>) {
@@ -98,6 +105,14 @@ impl Trusted {
             Ok(8) => &mut self.whole_cells,
             Ok(0) => &mut self.empty_cells,
             Ok(some) => panic!("{some} of eight entries"),
+            Err(number) => &mut self.refused[number as usize],
+        } += 1;
+    }
+
+    fn count_lifetimes(&mut self, greatest: Answer<u32>) {
+        *match greatest {
+            Ok(0) => &mut self.empty_lifetimes,
+            Ok(_) => &mut self.lifetimes,
             Err(number) => &mut self.refused[number as usize],
         } += 1;
     }
@@ -147,12 +162,26 @@ pub struct Given {
     distances: Fenced<u32>,
     firsts: Fenced<u16>,
     leaves: Fenced<u64>,
-    /// What `walk` answers, from its first call on: the model's walk takes its time.
+    /// What `walk` and `needs` answer, from their first calls on: the model takes its time.
     walk: RefCell<Option<Rc<Walk>>>,
+    needs: RefCell<Option<Rc<Needed>>>,
     pub tables: Tables,
     pub reading: Reading,
     /// What one comes to who trusts the tree.
     pub descent: Descent,
+}
+
+/// What a tree needs its leaves for, to one who checks it and to one who trusts it.
+pub struct Needed {
+    checked: Answer<Needs>,
+    pub trusted: Needs,
+}
+
+/// What both have reported with an exponent.
+pub struct Reports {
+    pub exponent: u32,
+    pub checked: Answer<Lifetimes>,
+    pub trusted: Answer<Lifetimes>,
 }
 
 /// Calls a function of the boundary with some of the tables first, each a pointer and a length.
@@ -184,6 +213,7 @@ impl Given {
             firsts: Fenced::new(&tables.firsts),
             leaves: Fenced::new(&tables.leaves),
             walk: RefCell::new(None),
+            needs: RefCell::new(None),
             reading: Reading::of(&tables),
             descent: tables.descent(),
             tables,
@@ -474,6 +504,102 @@ impl Given {
         (number, [first, last])
     }
 
+    pub fn needs(&self) -> Rc<Needed> {
+        let needs = || {
+            let checked = Needs::of_sound(&self.tables, &self.reading);
+            Rc::new(Needed { checked, trusted: Needs::of_trusted(&self.tables, &self.walk()) })
+        };
+        self.needs.borrow_mut().get_or_insert_with(needs).clone()
+    }
+
+    /// What the model reports: of a sound tree one thing, whether it is checked or trusted.
+    pub fn reports(&self, exponent: u32) -> Reports {
+        let needs = self.needs();
+        let checked = needs.checked.as_ref().map_err(|&number| number).and_then(|needs| needs.lifetimes(exponent));
+        let trusted = needs.trusted.lifetimes(exponent);
+        if self.reading.is_sound() {
+            assert_eq!(trusted, checked, "{}", self.told(&"the lifetimes in a sound tree"));
+        }
+        Reports { exponent, checked, trusted }
+    }
+
+    /// The least lengths of first slabs, last slabs and numbers with which a report isn't refused; the numbers' as if an exponent above 15
+    /// were 0.
+    pub fn report_room(&self, exponent: u32) -> [usize; 3] {
+        let leaves = self.needs().trusted.leaves;
+        [leaves, leaves, if exponent < 16 { 1 << exponent } else { 1 }]
+    }
+
+    /// Both calls for lifetimes, with tables of these lengths for first slabs, last slabs and numbers; the trusting one answers an unsound
+    /// tree too.
+    pub fn lifetimes(&self, reports: &Reports, lengths: [usize; 3], seen: &mut Seen) -> Answer<u32> {
+        let exponent = reports.exponent;
+        let call = format!("lifetimes of exponent {exponent} in tables of {lengths:?}");
+        let expected = self.agree_report(&reports.checked, lengths, &call, |first, f, last, l, needed, n, greatest| {
+            with_tree!(mittenhelm_lifetimes, self, exponent, first, f, last, l, needed, n, greatest)
+        });
+        let call = format!("trusting {call}");
+        let trusting = self.agree_report(&reports.trusted, lengths, &call, |first, f, last, l, needed, n, greatest| {
+            with_tables!(mittenhelm_lifetimes_trusting, self, [keys, firsts], exponent, first, f, last, l, needed, n, greatest)
+        });
+        if !self.reading.is_sound() {
+            seen.trusted.count_lifetimes(trusting);
+        }
+        match expected {
+            Ok(_) => seen.lifetimes[exponent as usize] += 1,
+            refused => seen.count_refusal(refused),
+        }
+        expected
+    }
+
+    /// Makes a call for lifetimes that is handed three tables with their lengths and the greatest number's place, and sees that it leaves
+    /// what the model does, which writes this report or has refused before.
+    fn agree_report(
+        &self,
+        report: &Answer<Lifetimes>,
+        lengths: [usize; 3],
+        call: &str,
+        lifetimes: impl FnOnce(*mut u32, u64, *mut u32, u64, *mut u32, u64, &mut u32) -> u32,
+    ) -> Answer<u32> {
+        let [mut first, mut last, mut needed] = lengths.map(report_before);
+        let [mut our_first, mut our_last, mut our_needed] = [&first, &last, &needed].map(|table| Fenced::new(table));
+        let expected = match report {
+            Ok(report) => report.write(&mut first, &mut last, &mut needed),
+            Err(number) => Err(*number),
+        };
+
+        let mut greatest = UNTOUCHED_COUNT;
+        let [f, l, n] = [our_first.lend(), our_last.lend(), our_needed.lend()];
+        let [f_length, l_length, n_length] = [f.len(), l.len(), n.len()].map(|length| length as u64);
+        let (f, l, n) = (f.as_mut_ptr(), l.as_mut_ptr(), n.as_mut_ptr());
+        let number = lifetimes(f, f_length, l, l_length, n, n_length, &mut greatest);
+        let expected_out = expected.map_or_else(|number| (number, UNTOUCHED_COUNT), |greatest| (0, greatest));
+        self.agree(&(number, greatest), &expected_out, call);
+        our_first.assert_holds(&first, "first slabs", &|| self.told(&call));
+        our_last.assert_holds(&last, "last slabs", &|| self.told(&call));
+        our_needed.assert_holds(&needed, "numbers of leaves", &|| self.told(&call));
+        expected
+    }
+
+    /// Lifetimes in tables that are just long enough, in longer ones, and in such of which each alone, or all, is one place too short.
+    /// The answer is that of the first.
+    pub fn lifetimes_in_rooms(&self, reports: &Reports, seen: &mut Seen) -> Answer<u32> {
+        let room = self.report_room(reports.exponent);
+        let answer = self.lifetimes(reports, room, seen);
+        assert_eq!(self.lifetimes(reports, [room[0] + 3, room[1] + 1, room[2] + 2], seen), answer);
+        for short in 0..3 {
+            let mut lengths = [room[0] + 5, room[1] + 5, room[2] + 5];
+            // A tree without keys has no leaves, and needs no room for them.
+            if let Some(less) = room[short].checked_sub(1) {
+                lengths[short] = less;
+                let refused = self.lifetimes(reports, lengths, seen);
+                assert_eq!(refused, answer.and(Err(17)), "{}", self.told(&format_args!("table {short} too short")));
+            }
+        }
+        let _ = self.lifetimes(reports, room.map(|length| length.saturating_sub(1)), seen);
+        answer
+    }
+
     /// Each call once, with parameters of all kinds. Of an unsound tree those that check it tell nothing, whatever else is wrong.
     pub fn every_call(&self, random: &mut Random, seen: &mut Seen) {
         self.sound(seen);
@@ -482,6 +608,11 @@ impl Given {
         let (vertex, level) = random.vertex_and_level();
         let _ = self.dual_cell(vertex, level, seen);
         let _ = self.slabs(vertex, level, random.below(18) as u32, seen);
+        let exponent = random.one_of(&[0, 1, 2, 3, 5, 8, 16, 17]);
+        let mut room = self.report_room(exponent);
+        let short = &mut room[random.below(3) as usize];
+        *short = short.saturating_sub(random.below(2) as usize);
+        let _ = self.lifetimes(&self.reports(exponent), room, seen);
     }
 
     fn agree<T: PartialEq + Debug>(&self, ours: &T, model: &T, call: impl Display) {

@@ -4,6 +4,7 @@ use crate::calls::Given;
 use mittenhelm::{distance, most_vertices, start, DualCell, Lookup, State, Tables, Tree, STATE_WORDS};
 use oracle_answers::fields::cell_at;
 use oracle_answers::inputs::Random;
+use oracle_answers::model::lifetimes::Needs;
 use oracle_answers::model::reading::{self, Reading};
 use oracle_answers::trees::{self, grown, GROWTHS};
 
@@ -142,6 +143,35 @@ fn slabs_of_the_middle_of_nine_nodes() {
     assert_eq!(reached, [1, 2, 3]);
 }
 
+/// The example of the header and of `Tree::lifetimes`: the one cell has all leaves.
+#[test]
+fn lifetimes_of_nine_nodes() {
+    let checked = NINE.checked().expect("a sound tree");
+    let (mut first, mut last, mut needed) = ([7; 9], [7; 8], [7; 6]);
+    assert_eq!(NINE.lifetimes(2, &mut first, &mut last, &mut needed), Ok(8));
+    assert_eq!((first, last, needed), ([1, 1, 1, 1, 1, 1, 1, 1, 7], [3; 8], [0, 8, 8, 8, 7, 7]));
+    let (mut first, mut last, mut needed) = ([7; 8], [7; 8], [7; 8]);
+    assert_eq!(checked.lifetimes(2, &mut first, &mut last, &mut needed[..4]), Ok(8));
+    assert_eq!((first, last, needed), ([1; 8], [3; 8], [0, 8, 8, 8, 7, 7, 7, 7]));
+    assert_eq!(checked.lifetimes(3, &mut first, &mut last, &mut needed), Ok(8));
+    assert_eq!((first, last, needed), ([2; 8], [6; 8], [0, 0, 8, 8, 8, 8, 8, 0]));
+}
+
+/// By hand: of sixteen slabs the four layers of level 2 have their centres in 2, 6, 10 and 14, the small leaves in 1 and 3.
+#[test]
+fn lifetimes_of_two_levels() {
+    Built::new(3, at_64).read(|tree| {
+        let (mut first, mut last, mut needed) = ([0; 71], [0; 71], [0; 16]);
+        assert_eq!(tree.lifetimes(4, &mut first, &mut last, &mut needed), Ok(51));
+        let span = |key| tree.leaves.binary_search(&key).map(|leaf| (first[leaf], last[leaf]));
+        // A low one and a high one of the small leaves; one of the lowest layer beside them, and one that isn't; and one of each other layer.
+        assert_eq!([512, 519, 65, 72].map(span), [(1, 3), (1, 6), (1, 6), (2, 6)].map(Ok));
+        assert_eq!([71, 120, 127].map(span), [(2, 10), (6, 14), (10, 14)].map(Ok));
+        // The eight small leaves with three beside them, then the two lowest layers; where a layer's centres are, three layers meet.
+        assert_eq!(needed, [0, 11, 39, 39, 35, 35, 51, 32, 32, 32, 48, 32, 32, 32, 32, 0]);
+    });
+}
+
 /// A cell of two levels: the corner of cell 519 of level 3 that lies in the middle of the cube's lowest eighth.
 #[test]
 fn slabs_of_two_levels() {
@@ -211,6 +241,10 @@ fn refusals_in_words() {
     );
     assert_eq!(told(NINE.slabs(MIDDLE, 1, 16).map(|_| ())), "refused 5: bound or slab exponent above 15");
     assert_eq!(told(none.slabs(MIDDLE, 1, 16).map(|_| ())), "refused 11: not a sound tree");
+    assert_eq!(told(root.lifetimes(0, &mut [0], &mut [0], &mut [0]).map(|_| ())), "accepted");
+    assert_eq!(told(root.lifetimes(0, &mut [0], &mut [], &mut [0]).map(|_| ())), "refused 17: a report table too short");
+    assert_eq!(told(root.lifetimes(16, &mut [0], &mut [], &mut [0]).map(|_| ())), "refused 5: bound or slab exponent above 15");
+    assert_eq!(told(none.lifetimes(16, &mut [], &mut [], &mut []).map(|_| ())), "refused 11: not a sound tree");
 }
 
 /// A state that isn't of these tables gives no tree.
@@ -281,5 +315,17 @@ fn wrappers() {
         let again = checked.and_then(|tree| tree.list(start, &mut again_vertices, &mut again_levels));
         assert_eq!(again.map_err(number), expected);
         assert_eq!((again_vertices, again_levels), (expected_vertices, expected_levels));
+
+        let (exponent, room) = (random.below(7) as u32, tables.leaves.len() + random.below(3) as usize);
+        let report = Needs::of_sound(&tables, &model).and_then(|needs| needs.lifetimes(exponent));
+        let [mut first, mut last, mut needed] = [room, room, 32].map(|length| vec![7; length]);
+        let [mut again_first, mut again_last, mut again_needed] = [first.clone(), last.clone(), needed.clone()];
+        let [mut expected_first, mut expected_last, mut expected_needed] = [first.clone(), last.clone(), needed.clone()];
+        let expected = report.and_then(|report| report.write(&mut expected_first, &mut expected_last, &mut expected_needed));
+        assert_eq!(tree.lifetimes(exponent, &mut first, &mut last, &mut needed).map_err(number), expected);
+        assert_eq!((&first, &last, &needed), (&expected_first, &expected_last, &expected_needed));
+        let again = checked.and_then(|tree| tree.lifetimes(exponent, &mut again_first, &mut again_last, &mut again_needed));
+        assert_eq!(again.map_err(number), expected);
+        assert_eq!((again_first, again_last, again_needed), (expected_first, expected_last, expected_needed));
     }
 }

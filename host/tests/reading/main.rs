@@ -9,6 +9,7 @@ mod calls;
 mod cells;
 mod counts;
 mod examples;
+mod lifetimes;
 mod lists;
 mod lookups;
 mod places;

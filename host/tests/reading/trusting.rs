@@ -84,6 +84,11 @@ fn any_tables() {
         let (count, start) = (given.walked().len(), random.below(3) as usize);
         let mut length = || (start + count + random.below(3) as usize).saturating_sub(1);
         let _ = given.list(start, [length(), length()], &mut seen);
+        let exponent = random.one_of(&[0, 2, 5, 16]);
+        let mut room = given.report_room(exponent);
+        let table = random.below(3) as usize;
+        room[table] = (room[table] + random.below(4) as usize).saturating_sub(1);
+        let _ = given.lifetimes(&given.reports(exponent), room, &mut seen);
     }
     println!("any tables, {missed} keys missed and {without} without a distance: {seen:?}");
     assert!(missed > 2000 && without > 2000, "{missed}, {without}");
