@@ -37,9 +37,11 @@ pub const CALLS: &[Call] = &[
     call!("list", &["vertices", "none"], [11, 12], reading::list),
     call!("dual_cell", ONE_WAY, [11, 4], reading::dual_cell),
     call!("slabs", &["one slab", "several"], [11, 4, 5], reading::slabs),
+    call!("lifetimes", &["leaves", "none needed"], [11, 5, 17], reading::lifetimes),
     call!("look_up_trusting", &["found", "nothing"], [1], reading::look_up_trusting),
     call!("list_trusting", &["vertices", "none"], [12], reading::list_trusting),
     call!("cells_trusting", &["vertices", "none"], [], reading::cells_trusting),
     call!("dual_cell_trusting", ONE_WAY, [4], reading::dual_cell_trusting),
     call!("slabs_trusting", &["one slab", "several"], [4, 5], reading::slabs_trusting),
+    call!("lifetimes_trusting", &["leaves", "none needed"], [5, 17], reading::lifetimes_trusting),
 ];

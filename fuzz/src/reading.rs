@@ -5,14 +5,16 @@ use crate::inputs::{disturb, number, or_edge, vertex_and_level};
 use crate::outcomes::{yes_or_no, ACCEPTED};
 use mittenhelm::most_vertices;
 use mittenhelm::raw::{
-    mittenhelm_cells_trusting, mittenhelm_dual_cell, mittenhelm_dual_cell_trusting, mittenhelm_list, mittenhelm_list_trusting,
-    mittenhelm_look_up, mittenhelm_look_up_trusting, mittenhelm_slabs, mittenhelm_slabs_trusting, mittenhelm_sound,
+    mittenhelm_cells_trusting, mittenhelm_dual_cell, mittenhelm_dual_cell_trusting, mittenhelm_lifetimes,
+    mittenhelm_lifetimes_trusting, mittenhelm_list, mittenhelm_list_trusting, mittenhelm_look_up, mittenhelm_look_up_trusting,
+    mittenhelm_slabs, mittenhelm_slabs_trusting, mittenhelm_sound,
 };
 use oracle_answers::broken::{change, BREAKS};
 use oracle_answers::fields::{field, KINDS};
 use oracle_answers::inputs::Random;
-use oracle_answers::lent::{levels_before, one_nan, places_before, vertices_before, Fenced};
+use oracle_answers::lent::{levels_before, one_nan, places_before, report_before, vertices_before, Fenced};
 use oracle_answers::misled::FORGERIES;
+use oracle_answers::model::lifetimes::{Lifetimes, Needs};
 use oracle_answers::model::reading::{
     firsts_of, write_list, write_placed, Descent, DualCell, Lookup, Placed, Reading, Slabs, Tables, Walk,
 };
@@ -24,6 +26,9 @@ use std::rc::Rc;
 
 /// How often a case makes its call on its tree.
 const TIMES: u32 = 20;
+
+/// The same of a call that reports on the whole tree, for which there is less to choose.
+const REPORTS: u32 = 5;
 
 /// The out parameters for what a lookup finds.
 struct Found {
@@ -409,6 +414,86 @@ impl Given {
         case.judge(name, said, way, &differences, arguments)
     }
 
+    fn lifetimes(&self, case: &mut Case) -> Checked {
+        self.lifetimes_by(
+            case,
+            "lifetimes",
+            |exponent, first, f, last, l, needed, n, greatest| {
+                with_tree!(mittenhelm_lifetimes, self, exponent, first, f, last, l, needed, n, greatest)
+            },
+            |exponent| Needs::of_sound(&self.tables, &self.reading)?.lifetimes(exponent),
+        )
+    }
+
+    fn lifetimes_trusting(&self, case: &mut Case) -> Checked {
+        self.lifetimes_by(
+            case,
+            "lifetimes_trusting",
+            |exponent, first, f, last, l, needed, n, greatest| {
+                with_tables!(
+                    mittenhelm_lifetimes_trusting,
+                    self,
+                    [keys, firsts],
+                    exponent,
+                    first,
+                    f,
+                    last,
+                    l,
+                    needed,
+                    n,
+                    greatest
+                )
+            },
+            |exponent| Needs::of_trusted(&self.tables, &self.walk()).lifetimes(exponent),
+        )
+    }
+
+    /// Lengths for first slabs, last slabs and numbers: mostly enough, or anything about that.
+    fn some_report_room(&self, exponent: u32, random: &mut Random) -> [usize; 3] {
+        // In a tree that isn't sound, a report may have other places than the leaf table.
+        let (nodes, leaves) = (self.tables.keys.len(), self.tables.leaves.len());
+        let enough = nodes - nodes.saturating_sub(1) / 8;
+        let slabs = 1 << exponent.min(15);
+        let around = |length: usize| [length, length + 1, length.saturating_sub(1), length / 2, 2 * length];
+        let others = [around(enough), around(leaves), around(nodes)].concat();
+        [(enough, &others[..]), (enough, &others), (slabs, &around(slabs))].map(|(enough, others)| match random.below(8) {
+            0 | 1 => random.one_of(others),
+            2 => random.below(enough as u64 + 2) as usize,
+            _ => enough + random.below(3) as usize,
+        })
+    }
+
+    /// A call that reports lifetimes, beside the model's.
+    fn lifetimes_by(
+        &self,
+        case: &mut Case,
+        name: &'static str,
+        ours: impl Fn(u32, *mut u32, u64, *mut u32, u64, *mut u32, u64, &mut u32) -> u32,
+        model: impl Fn(u32) -> Answer<Lifetimes>,
+    ) -> Checked {
+        // Many slabs take their time.
+        let some = case.random.below(6) as u32;
+        let exponent = if case.random.below(8) == 0 { some_exponent(&mut case.random) } else { some };
+        let lengths = self.some_report_room(exponent, &mut case.random);
+        let [mut first, mut last, mut needed] = lengths.map(report_before);
+        let [mut our_first, mut our_last, mut our_needed] = [&first, &last, &needed].map(|table| Fenced::new(table));
+        let mut greatest = Out::<u32>::new();
+        let [f, l, n] = [our_first.lend(), our_last.lend(), our_needed.lend()];
+        let [f_length, l_length, n_length] = [f.len(), l.len(), n.len()].map(|length| length as u64);
+        let (f, l, n) = (f.as_mut_ptr(), l.as_mut_ptr(), n.as_mut_ptr());
+        let said = ours(exponent, f, f_length, l, l_length, n, n_length, greatest.place());
+        let expected = model(exponent).and_then(|report| report.write(&mut first, &mut last, &mut needed));
+        let differences = self.with_tables([
+            greatest.difference(expected.ok().map(|greatest| [greatest]), "greatest number"),
+            our_first.difference(&first, "first slabs"),
+            our_last.difference(&last, "last slabs"),
+            our_needed.difference(&needed, "numbers of leaves"),
+        ]);
+        let way = expected.map(|greatest| if greatest == 0 { "none needed" } else { "leaves" });
+        let arguments = || format!("{}, {exponent}, tables of {lengths:?}", self.told());
+        case.judge(name, said, way, &differences, arguments)
+    }
+
     /// Each call once.
     pub fn every_call(&self, case: &mut Case) -> Checked {
         self.sound(case)?;
@@ -416,11 +501,13 @@ impl Given {
         self.list(case)?;
         self.dual_cell(case)?;
         self.slabs(case)?;
+        self.lifetimes(case)?;
         self.look_up_trusting(case)?;
         self.list_trusting(case)?;
         self.cells_trusting(case)?;
         self.dual_cell_trusting(case)?;
-        self.slabs_trusting(case)
+        self.slabs_trusting(case)?;
+        self.lifetimes_trusting(case)
     }
 }
 
@@ -497,8 +584,12 @@ fn disturb_one(tables: &mut Tables, random: &mut Random) {
 
 /// A case of one call: several times on one tree.
 fn of_tree(case: &mut Case, call: fn(&Given, &mut Case) -> Checked) -> Checked {
+    times_of_tree(TIMES, case, call)
+}
+
+fn times_of_tree(times: u32, case: &mut Case, call: fn(&Given, &mut Case) -> Checked) -> Checked {
     let given = Given::new(some_tree(&mut case.random));
-    (0..TIMES).try_for_each(|_| call(&given, case))
+    (0..times).try_for_each(|_| call(&given, case))
 }
 
 /// On a tree of its own each time, since there is nothing else to choose.
@@ -522,6 +613,10 @@ pub fn slabs(case: &mut Case) -> Checked {
     of_tree(case, Given::slabs)
 }
 
+pub fn lifetimes(case: &mut Case) -> Checked {
+    times_of_tree(REPORTS, case, Given::lifetimes)
+}
+
 pub fn look_up_trusting(case: &mut Case) -> Checked {
     of_tree(case, Given::look_up_trusting)
 }
@@ -540,4 +635,8 @@ pub fn dual_cell_trusting(case: &mut Case) -> Checked {
 
 pub fn slabs_trusting(case: &mut Case) -> Checked {
     of_tree(case, Given::slabs_trusting)
+}
+
+pub fn lifetimes_trusting(case: &mut Case) -> Checked {
+    times_of_tree(REPORTS, case, Given::lifetimes_trusting)
 }
