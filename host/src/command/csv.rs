@@ -2,7 +2,7 @@
 
 use super::cut::Cut;
 use super::fault::Fault;
-use super::reading::{Cell, Count, Leaf, Reading};
+use super::reading::{Cell, Leaf, Reading, Slab};
 use mittenhelm::Refusal;
 use std::fmt::Display;
 
@@ -21,10 +21,15 @@ pub const TABLES: [Table; 4] = [
     Table {
         name: "slabs",
         about: "each slab, with the number of cells that reach it, 0 too",
-        columns: "slab,low,high,cells,crossed",
+        columns: "slab,low,high,cells,crossed,needed",
         rows: slabs,
     },
-    Table { name: "leaves", about: "each leaf, with its centre", columns: "key,level,x,y,z,half,distance,place", rows: leaves },
+    Table {
+        name: "leaves",
+        about: "each leaf, with its centre and the slabs at which it is needed",
+        columns: "key,level,x,y,z,half,distance,first,last,place",
+        rows: leaves,
+    },
     Table {
         name: "vertices",
         about: "each vertex, with the slabs that its cell reaches",
@@ -66,17 +71,17 @@ fn spelt_out(column: &str) -> String {
 }
 
 fn slabs(cut: &Cut, reading: &Reading) -> Result<Vec<String>, Refusal> {
-    let row = |(slab, count): (usize, &Count)| {
+    let row = |(slab, Slab { count, needed }): (usize, &Slab)| {
         let (low, high) = (cut.height(slab as f64), cut.height(slab as f64 + 1.0));
-        format!("{slab},{low},{high},{},{}", count.cells, count.crossed)
+        format!("{slab},{low},{high},{},{},{needed}", count.cells, count.crossed)
     };
     Ok(reading.slabs.iter().enumerate().map(row).collect())
 }
 
 fn leaves(_: &Cut, reading: &Reading) -> Result<Vec<String>, Refusal> {
     let row = |leaf: &Leaf| {
-        let Leaf { key, centre, half, distance, place } = leaf;
-        format!("{key},{},{},{half},{distance},{place}", mittenhelm::level(*key), joined(centre))
+        let Leaf { key, centre, half, distance, place, first, last } = leaf;
+        format!("{key},{},{},{half},{distance},{first},{last},{place}", mittenhelm::level(*key), joined(centre))
     };
     Ok(reading.leaves.iter().map(row).collect())
 }

@@ -5,6 +5,7 @@ use super::csv::TABLES;
 use super::cut::{MOST_BOUND, MOST_EXPONENT, USUAL_BOUND, USUAL_EXPONENT};
 use super::fields::BUILT_INS;
 use super::grid::POINTS;
+use super::memory::LEAF_DATA;
 use super::sample::USUAL_POINTS;
 
 pub fn page() -> String {
@@ -17,12 +18,14 @@ pub fn page() -> String {
         "\
 usage: mittenhelm slice PART [--bound N] [--exponent N] [--nodes N]
                              [--csv TABLE] [--svg FILE [--slab K]]
+                             [--lifetimes FILE]
        mittenhelm sample PART [--points N | --points NX,NY,NZ] [-o FILE]
        mittenhelm key NUMBER
 
 slice builds the octree over a part, answering one asked distance after another,
 checks the tree, lists its vertices and gets the dual cell of each. It reports
-what there is, what memory that took, and how many cells reach each slab.
+what there is, what memory that took, how many cells reach each slab, and how
+many leaves are needed at it.
   --bound N   split no cell of level N: 0 to {MOST_BOUND}, default {USUAL_BOUND};
               below {LEAST_BOUND} it is as {LEAST_BOUND}
   --exponent N
@@ -35,6 +38,10 @@ what there is, what memory that took, and how many cells reach each slab.
               vertices of the cells that reach it; and marks on the leaves of
               those cells, dashed on such as the plane doesn't cut
   --slab K    the slab that is drawn, from 0 on, default the middle one
+  --lifetimes FILE
+              draw when each leaf is needed: a bar from its first slab to its
+              last, ordered by first slab, then key; and above the bars how many
+              are needed at each slab, with the greatest number marked
 
 sample writes a part as a grid file, to FILE or to standard output.
   --points N  samples on each axis: {least} to {most}, default {USUAL_POINTS}; or three such
@@ -60,6 +67,11 @@ A cell reaches from the lowest of its eight node centres to the highest: `first`
 and `last` are the slabs that hold these two heights. It counts in both and in
 all between, so the numbers of all slabs may add up to more than there are. In
 the report, slabs in a row that have the same numbers are one line.
+
+A leaf is needed in each slab that a cell reaches which has it: of a leaf
+`first` and `last` are the least first and the greatest last slab of its cells,
+and `needed` is the number of leaves that are needed at a slab. The report says
+what the data of so many takes, at {LEAF_DATA} bytes a leaf, beside that of all.
 
 A cell is crossed if the part's surface goes through it: of its eight distances
 some are below 0 and some aren't. Fractions have as many decimals as f32 needs.

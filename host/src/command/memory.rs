@@ -7,6 +7,9 @@ use std::mem;
 /// For everything: 256 KiB.
 pub const PRINTER: usize = 256 * 1024;
 
+/// What a printer's own data of a leaf may take.
+pub const LEAF_DATA: usize = 32;
+
 /// A lent table: how many places it has, how many were needed, and its bytes.
 pub struct Table {
     pub name: &'static str,
@@ -32,5 +35,8 @@ pub fn tables(built: &Built, reading: &Reading) -> Vec<Table> {
         Table::of::<u64>("state", built.state.0.len(), built.state.0.len()),
         Table::of::<u64>("vertices", reading.list_places, reading.cells.len()),
         Table::of::<u8>("levels", reading.list_places, reading.cells.len()),
+        Table::of::<u32>("first slabs", reading.leaves.len(), reading.leaves.len()),
+        Table::of::<u32>("last slabs", reading.leaves.len(), reading.leaves.len()),
+        Table::of::<u32>("needed by slab", reading.slabs.len(), reading.slabs.len()),
     ]
 }

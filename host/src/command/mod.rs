@@ -9,6 +9,7 @@ mod fields;
 mod grid;
 mod help;
 mod key;
+mod lifetimes;
 mod memory;
 mod output;
 mod part;

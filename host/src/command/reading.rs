@@ -1,4 +1,5 @@
-//! What is read from a finished tree: its leaves, its vertices, and the dual cell of each with the slabs that it reaches.
+//! What is read from a finished tree: its leaves and when they are needed, its vertices, and the dual cell of each with the slabs that it
+//! reaches.
 
 use super::fault::Fault;
 use super::fields::Point;
@@ -14,6 +15,9 @@ pub struct Leaf {
     pub distance: f32,
     /// Where it stands among the tree's nodes.
     pub place: usize,
+    /// From which slab to which it is needed.
+    pub first: u32,
+    pub last: u32,
 }
 
 /// A vertex with its dual cell.
@@ -32,11 +36,20 @@ pub struct Count {
     pub crossed: usize,
 }
 
+/// What a slab has: the cells that reach it, and how many leaves are needed at it.
+#[derive(Clone, Copy, Default, PartialEq, Eq)]
+pub struct Slab {
+    pub count: Count,
+    pub needed: u32,
+}
+
 pub struct Reading {
     pub nodes: usize,
     pub leaves: Vec<Leaf>,
     pub cells: Vec<Cell>,
-    pub slabs: Vec<Count>,
+    pub slabs: Vec<Slab>,
+    /// The most leaves that are needed at a slab.
+    pub greatest: u32,
     /// How many places were lent for the list of vertices.
     pub list_places: usize,
 }
@@ -52,12 +65,20 @@ impl Reading {
             cells.push(Cell::of(&sound, vertex, level.into(), exponent)?);
             progress.say_part("dual cells", cells.len(), count);
         }
-        let mut slabs = vec![Count::default(); 1 << exponent];
+        let [mut first, mut last] = [(); 2].map(|()| vec![0; tree.leaves.len()]);
+        let mut needed = vec![0; 1 << exponent];
+        let greatest = sound.lifetimes(exponent, &mut first, &mut last, &mut needed)?;
+        let mut slabs: Vec<Slab> = needed.into_iter().map(|needed| Slab { needed, ..Slab::default() }).collect();
         for cell in &cells {
             let is_crossed = cell.is_crossed();
-            cell.slabs.clone().for_each(|slab| slabs[slab as usize].add(is_crossed));
+            cell.slabs.clone().for_each(|slab| slabs[slab as usize].count.add(is_crossed));
         }
-        Ok(Reading { nodes: tree.keys.len(), leaves: leaves(tree)?, cells, slabs, list_places })
+        Ok(Reading { nodes: tree.keys.len(), leaves: leaves(tree, &first, &last)?, cells, slabs, greatest, list_places })
+    }
+
+    /// The slabs at which the most leaves are needed, ascending.
+    pub fn fullest(&self) -> Vec<usize> {
+        (0..self.slabs.len()).filter(|&slab| self.slabs[slab].needed == self.greatest).collect()
     }
 
     pub fn together(&self) -> Count {
@@ -97,11 +118,12 @@ impl Cell {
     }
 }
 
-/// The leaves of a sound tree are its nodes without a first child, in the same order: so each is read where it stands.
-fn leaves(tree: &Tree) -> Result<Vec<Leaf>, Refusal> {
-    let leaf = |place: usize| {
+/// The leaves of a sound tree are its nodes without a first child, in the same order: so each is read where it stands, with its slabs.
+fn leaves(tree: &Tree, first: &[u32], last: &[u32]) -> Result<Vec<Leaf>, Refusal> {
+    let leaf = |(number, place): (usize, usize)| {
         let (key, distance) = (tree.keys[place], tree.distances[place]);
-        Ok(Leaf { key, centre: mittenhelm::centre(key)?, half: mittenhelm::half_size(key)?, distance, place })
+        let (centre, half) = (mittenhelm::centre(key)?, mittenhelm::half_size(key)?);
+        Ok(Leaf { key, centre, half, distance, place, first: first[number], last: last[number] })
     };
-    (0..tree.keys.len()).filter(|&place| tree.firsts[place] == 0).map(leaf).collect()
+    (0..tree.keys.len()).filter(|&place| tree.firsts[place] == 0).enumerate().map(leaf).collect()
 }

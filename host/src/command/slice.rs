@@ -5,6 +5,7 @@ use super::build::{Built, Lent, MOST_NODES};
 use super::csv;
 use super::cut::{Cut, MOST_BOUND, MOST_EXPONENT, USUAL_BOUND, USUAL_EXPONENT};
 use super::fault::Fault;
+use super::lifetimes;
 use super::memory;
 use super::output::{print, save_by, shown};
 use super::part::Part;
@@ -16,11 +17,16 @@ use std::ffi::OsString;
 use std::path::Path;
 
 pub fn run(words: &[OsString]) -> Result<(), Fault> {
-    let arguments = Arguments::new(words, &["--bound", "--exponent", "--nodes", "--csv", "--svg", "--slab"])?;
+    let arguments = Arguments::new(words, &["--bound", "--exponent", "--nodes", "--csv", "--svg", "--slab", "--lifetimes"])?;
     let word = arguments.only("part")?;
     let cut = cut(&arguments)?;
     let table = arguments.read("--csv", &csv::names(), csv::named)?;
     let picture = picture(&arguments, &cut)?;
+    let bars = arguments.path("--lifetimes")?;
+    if let (Some((slab, _)), true) = (picture, picture.map(|(path, _)| path) == bars) {
+        let name = shown(slab.as_os_str());
+        return Err(Fault::arguments(format!("--svg and --lifetimes both name {name:?}, which holds one picture")));
+    }
 
     let mut progress = Progress::new();
     let part = Part::find(word, &mut progress)?;
@@ -29,17 +35,22 @@ pub fn run(words: &[OsString]) -> Result<(), Fault> {
     let reading = Reading::new(&built.tree(), cut.exponent, &mut progress)?;
     drop(progress);
 
+    let mut pictures = Vec::new();
     if let Some((path, slab)) = picture {
-        let drawn = svg::draw(&part, &cut, &reading, slab)?;
-        save_by(path, |out| out.write_all(drawn.as_bytes()))?;
+        pictures.push(save(path, svg::draw(&part, &cut, &reading, slab)?, format!("slab {slab}"))?);
+    }
+    if let Some(path) = bars {
+        pictures.push(save(path, lifetimes::draw(&part, &cut, &reading), "when each leaf is needed".to_string())?);
     }
     match table {
         Some(table) => print(&csv::write(table, &cut, &reading)?),
-        None => {
-            let picture = picture.map(|(path, slab)| Picture { name: shown(path.as_os_str()), slab });
-            print(&report::write(&part, &cut, &reading, &memory::tables(&built, &reading), picture))
-        }
+        None => print(&report::write(&part, &cut, &reading, &memory::tables(&built, &reading), &pictures)),
     }
+}
+
+fn save(path: &Path, drawn: String, shows: String) -> Result<Picture, Fault> {
+    save_by(path, |out| out.write_all(drawn.as_bytes()))?;
+    Ok(Picture { name: shown(path.as_os_str()), shows })
 }
 
 fn cut(arguments: &Arguments) -> Result<Cut, Fault> {

@@ -107,7 +107,7 @@ fn head(page: &mut String, part: &Part, cut: &Cut, reading: &Reading, slab: u32)
     let (low, middle, high) = (f64::from(slab), f64::from(slab) + 0.5, f64::from(slab) + 1.0);
     let name = escaped(&shortened(&part.name));
     let title = format!("{name}, slab {slab} (of 0 to {})", cut.slabs() - 1);
-    let count = reading.slabs[slab as usize];
+    let count = reading.slabs[slab as usize].count;
     let (low, middle, high) = (cut.height(low), cut.height(middle), cut.height(high));
     writeln!(page, "<?xml version=\"1.0\" encoding=\"UTF-8\"?>")?;
     writeln!(
@@ -234,7 +234,7 @@ fn legend(page: &mut String) -> fmt::Result {
 }
 
 /// The end of a long name, which tells more than its beginning.
-fn shortened(name: &str) -> String {
+pub fn shortened(name: &str) -> String {
     const MOST: usize = 28;
     let length = name.chars().count();
     if length <= MOST {
@@ -243,6 +243,6 @@ fn shortened(name: &str) -> String {
     format!("...{}", name.chars().skip(length - MOST + 3).collect::<String>())
 }
 
-fn escaped(text: &str) -> String {
+pub fn escaped(text: &str) -> String {
     text.replace('&', "&amp;").replace('<', "&lt;").replace('>', "&gt;")
 }
