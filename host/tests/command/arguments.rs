@@ -12,7 +12,18 @@ fn help() {
     for words in [&["help"][..], &["-h"], &["slice", "--help"], &["slice", "no-such-part", "-h"], &["sample", "--help"]] {
         assert_eq!(printed(words), page, "{words:?}");
     }
-    for word in ["--bound", "--exponent", "--nodes", "--csv", "--svg", "--slab", "--points", "-o", "mittenhelm-grid NX NY NZ"] {
+    for word in [
+        "--bound",
+        "--exponent",
+        "--nodes",
+        "--csv",
+        "--svg",
+        "--slab",
+        "--lifetimes",
+        "--points",
+        "-o",
+        "mittenhelm-grid NX NY NZ",
+    ] {
         assert!(page.contains(word), "{word}");
     }
     assert!(crate::fields::BUILT_INS.iter().all(|part| page.contains(&format!("\n  {} ", part.name))), "{page}");
@@ -67,6 +78,12 @@ fn bad_arguments() {
         &["slice", "sphere", "--slab", "0"],
         &["slice", "sphere", "--svg", svg, "--slab", "16"],
         &["slice", "sphere", "--svg", svg, "--exponent", "2", "--slab", "4"],
+        &["slice", "sphere", "--lifetimes"],
+        &["slice", "sphere", "--lifetimes", ""],
+        &["slice", "sphere", "--lifetimes", svg, "--lifetimes", svg],
+        &["slice", "sphere", "--lifetimes", svg, "--svg", svg],
+        &["slice", "sphere", "--lifetimes", svg, "--slab", "0"],
+        &["sample", "sphere", "--lifetimes", svg],
         &["sample"],
         &["sample", "ball"],
         &["sample", "sphere", "--bound", "4"],
@@ -127,7 +144,9 @@ fn output_that_cannot_be_written() {
     let folder = env!("CARGO_TARGET_TMPDIR");
     let nowhere = file("no-such-folder/slab.svg");
     for path in [nowhere.to_str().expect("plain text"), folder, "/dev/full"] {
-        for words in [&["slice", "sphere", "--svg", path], &["sample", "sphere", "-o", path]] {
+        for words in
+            [&["slice", "sphere", "--svg", path], &["slice", "sphere", "--lifetimes", path], &["sample", "sphere", "-o", path]]
+        {
             let said = one_line(1, words);
             assert!(said.starts_with(&format!("mittenhelm: cannot write {path}: ")), "{said}");
         }

@@ -5,6 +5,7 @@ mod arguments;
 mod fields;
 mod grids;
 mod key;
+mod lifetimes;
 mod parts;
 mod pictures;
 mod refusals;

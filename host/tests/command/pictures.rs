@@ -7,20 +7,20 @@ use std::collections::{BTreeMap, BTreeSet};
 use std::fs;
 
 /// An element without those inside it: its name, the id of the group around it, and its attributes.
-struct Element {
-    name: String,
-    group: String,
-    attributes: BTreeMap<String, String>,
+pub struct Element {
+    pub name: String,
+    pub group: String,
+    pub attributes: BTreeMap<String, String>,
 }
 
 impl Element {
-    fn number(&self, attribute: &str) -> f64 {
+    pub fn number(&self, attribute: &str) -> f64 {
         self.attributes[attribute].parse().unwrap_or_else(|_| panic!("{attribute}: {:?}", self.attributes))
     }
 }
 
 /// The elements of a document, which must be well-formed: every tag is closed in its turn, every value quoted, all text escaped.
-fn elements(document: &str) -> Vec<Element> {
+pub fn elements(document: &str) -> Vec<Element> {
     let mut rest = document.strip_prefix("<?xml version=\"1.0\" encoding=\"UTF-8\"?>\n").expect("a declaration");
     let (mut open, mut elements): (Vec<(String, String)>, Vec<Element>) = (Vec::new(), Vec::new());
     while let Some(at) = rest.find('<') {

@@ -84,14 +84,14 @@ fn are_told_with_what_helps() {
 /// A refused build leaves no table, and no picture.
 #[test]
 fn leave_nothing() {
-    let path = file("refused.svg");
-    let svg = path.to_str().expect("plain text");
+    let paths = ["refused.svg", "refused-lifetimes.svg"].map(file);
+    let [svg, lifetimes] = [0, 1].map(|i: usize| paths[i].to_str().expect("plain text"));
     for csv in ["slabs", "leaves", "vertices", "cells"] {
-        let said = fault(1, &slice("sphere", &["--bound", "9", "--svg", svg, "--csv", csv]));
+        let said = fault(1, &slice("sphere", &["--bound", "9", "--svg", svg, "--lifetimes", lifetimes, "--csv", csv]));
         assert!(said.starts_with("mittenhelm: refused 8: "), "{said}");
     }
-    assert!(!path.exists());
-    printed(&slice("sphere", &["--svg", svg]));
-    assert!(path.exists());
-    std::fs::remove_file(path).expect("the picture just made");
+    assert!(paths.iter().all(|path| !path.exists()));
+    printed(&slice("sphere", &["--svg", svg, "--lifetimes", lifetimes]));
+    assert!(paths.iter().all(|path| path.exists()));
+    paths.iter().for_each(|path| std::fs::remove_file(path).expect("a picture just made"));
 }
