@@ -1,6 +1,8 @@
 //! The header as a C and as a C++ compiler read it, with the archive linked to the programs of tests/c: one that uses every
-//! function, and one that takes a part from its distance field to its dual cells, whose totals are the model's.
+//! function, one that takes a part from its distance field to its dual cells, and one that keeps leaves only while they are needed, whose
+//! totals are the model's.
 
+use oracle_answers::model::lifetimes::{Lifetimes, Needs};
 use oracle_answers::model::reading::{Lookup, Reading, Slabs, Tables};
 use oracle_answers::model::{add, centre, child};
 use oracle_answers::trees::Tree;
@@ -66,7 +68,7 @@ fn no_length_of_the_hosts_own_width() {
     }
 }
 
-/// The field of prints_part.c.
+/// The field of prints_part.c and keeps_leaves.c.
 fn sphere([x, y, z]: [f32; 3]) -> f32 {
     let [dx, dy, dz] = [x - 0.4375, y - 0.5, z - 0.5625];
     (dx * dx + dy * dy + dz * dz).sqrt() - 0.21875
@@ -140,4 +142,40 @@ fn a_part_in_c() {
 #[test]
 fn a_part_in_cpp() {
     assert_eq!(in_cpp("prints_part"), totals(5, 3));
+}
+
+/// What keeps_leaves.c has to print, by the model, with its depth bound and slab exponent.
+fn kept(bound: u32, exponent: u32) -> String {
+    let tables = Tree::by_rule(bound, &sphere).tables();
+    let reading = Reading::of(&tables);
+    let report = Needs::of_sound(&tables, &reading).and_then(|needs| needs.lifetimes(exponent));
+    let Lifetimes { first, last, needed, greatest } = report.expect("a sound tree");
+    let leaves = tables.leaves.len();
+    assert!(2 * greatest < leaves as u32, "a part whose leaves are all needed at once tells nothing");
+    let mut text = format!("{} nodes, {leaves} leaves, {greatest} of them needed at once\n", tables.keys.len());
+    for (slab, held) in (0..).zip(needed) {
+        let [got, freed] = [&first, &last].map(|slabs| slabs.iter().filter(|&&at| at == slab).count());
+        let (mut cells, mut inside) = (0, 0);
+        for (vertex, level) in reading.vertices().expect("a sound tree") {
+            let Slabs { first, last } = reading.slabs(vertex, level, exponent).expect("a listed vertex");
+            if (first..=last).contains(&slab) {
+                let distances = reading.dual_cell(vertex, level).expect("a listed vertex").distances;
+                cells += 1;
+                inside += distances.iter().filter(|&&bits| f32::from_bits(bits) < 0.0).count();
+            }
+        }
+        let line = format!("slab {slab}: {got} leaves got, {held} held, {freed} freed; {cells} cells read, {inside} entries inside");
+        writeln!(text, "{line}").expect("a String takes all that is written");
+    }
+    text
+}
+
+#[test]
+fn kept_leaves_in_c() {
+    assert_eq!(in_c("keeps_leaves"), kept(5, 4));
+}
+
+#[test]
+fn kept_leaves_in_cpp() {
+    assert_eq!(in_cpp("keeps_leaves"), kept(5, 4));
 }

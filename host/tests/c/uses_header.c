@@ -142,6 +142,8 @@ static void read_nine(uint64_t middle)
     uint64_t cell_keys[8], cell_places[8], vertex = 5;
     float cell_distances[8], x = 5, y = 5, z = 5;
     uint32_t tried = 5, entry, exponent, first = 5, last = 7;
+    uint32_t first_slabs[9] = {5, 5, 5, 5, 5, 5, 5, 5, 5}, last_slabs[9] = {5, 5, 5, 5, 5, 5, 5, 5, 5}, needed[5] = {5, 5, 5, 5, 5};
+    uint32_t greatest = 5;
 
     expect(mittenhelm_dual_cell(nine, 9, nine_distances, 9, nine_firsts, 9, eight, 8, middle, 1, cell_keys, cell_distances,
         cell_places, &tried) == MITTENHELM_ACCEPTED && tried == 8, "dual_cell of nine nodes");
@@ -169,6 +171,24 @@ static void read_nine(uint64_t middle)
             "slabs_trusting of nine nodes");
         expect(first == firsts_of_exponents[exponent] && last == lasts_of_exponents[exponent], "from 1/4 to 3/4 of a trusted tree");
     }
+
+    /* Of four slabs each leaf is needed from 1 to 3. */
+    expect(mittenhelm_lifetimes(nine, 9, nine_distances, 9, nine_firsts, 9, eight, 8, 2, first_slabs, 9, last_slabs, 8, needed, 4,
+        &greatest) == MITTENHELM_ACCEPTED && greatest == 8, "lifetimes of nine nodes");
+    for (entry = 0; entry < 8; entry++)
+        expect(first_slabs[entry] == 1 && last_slabs[entry] == 3, "each leaf from 1 to 3");
+    expect(needed[0] == 0 && needed[1] == 8 && needed[2] == 8 && needed[3] == 8, "leaves needed at four slabs");
+    memset(first_slabs, 0, sizeof first_slabs);
+    memset(last_slabs, 0, sizeof last_slabs);
+    memset(needed, 0, sizeof needed);
+    greatest = 5;
+    needed[4] = first_slabs[8] = last_slabs[8] = 5;
+    expect(mittenhelm_lifetimes_trusting(nine, 9, nine_firsts, 9, 2, first_slabs, 8, last_slabs, 9, needed, 5, &greatest)
+        == MITTENHELM_ACCEPTED && greatest == 8, "lifetimes_trusting of nine nodes");
+    for (entry = 0; entry < 8; entry++)
+        expect(first_slabs[entry] == 1 && last_slabs[entry] == 3, "each leaf from 1 to 3 of a trusted tree");
+    expect(needed[0] == 0 && needed[1] == 8 && needed[2] == 8 && needed[3] == 8, "leaves needed at four slabs of a trusted tree");
+    expect(needed[4] == 5 && first_slabs[8] == 5 && last_slabs[8] == 5, "behind a report");
 }
 
 static void set_all(uint64_t *places, uint64_t number)
@@ -229,6 +249,42 @@ static void read_slabs(uint64_t middle)
         "slabs_trusting");
     expect(mittenhelm_slabs_trusting(keys, 73, firsts, 0, middle, 2, 3, &first, &last) == MITTENHELM_ACCEPTED && first == 4
         && last == 4, "without a way down all is at 1/2");
+}
+
+/* When the leaves of the tree that the last build left are needed: refusals in their order, which leave all tables as they are. */
+static void read_lifetimes(void)
+{
+    uint32_t first[64], last[64], needed[8], greatest = 5, i;
+
+    for (i = 0; i < 64; i++)
+        first[i] = last[i] = needed[i % 8] = 5;
+    expect(mittenhelm_lifetimes(NODES, leaves, 63, 16, first, 63, last, 64, needed, 8, &greatest) == MITTENHELM_NOT_SOUND,
+        "an unsound tree goes before an exponent of 16 and short tables");
+    expect(mittenhelm_lifetimes(TREE, 16, first, 63, last, 64, needed, 8, &greatest) == MITTENHELM_ABOVE_FIFTEEN,
+        "an exponent of 16 goes before short tables");
+    expect(mittenhelm_lifetimes(TREE, 3, first, 63, last, 64, needed, 8, &greatest) == MITTENHELM_REPORT_SHORT, "63 first slabs");
+    expect(mittenhelm_lifetimes(TREE, 3, first, 64, last, 63, needed, 8, &greatest) == MITTENHELM_REPORT_SHORT, "63 last slabs");
+    expect(mittenhelm_lifetimes(TREE, 3, first, 64, last, 64, needed, 7, &greatest) == MITTENHELM_REPORT_SHORT, "seven numbers");
+    expect(mittenhelm_lifetimes_trusting(CELLS, 16, first, 63, last, 64, needed, 8, &greatest) == MITTENHELM_ABOVE_FIFTEEN,
+        "trust and an exponent of 16");
+    expect(mittenhelm_lifetimes_trusting(CELLS, 3, first, 63, last, 64, needed, 8, &greatest) == MITTENHELM_REPORT_SHORT,
+        "trust and 63 first slabs");
+    expect(mittenhelm_lifetimes_trusting(CELLS, 3, first, 64, last, 63, needed, 8, &greatest) == MITTENHELM_REPORT_SHORT,
+        "trust and 63 last slabs");
+    expect(mittenhelm_lifetimes_trusting(CELLS, 3, first, 64, last, 64, needed, 7, &greatest) == MITTENHELM_REPORT_SHORT,
+        "trust and seven numbers");
+    for (i = 0; i < 64; i++)
+        expect(first[i] == 5 && last[i] == 5 && needed[i % 8] == 5 && greatest == 5, "refused lifetimes");
+
+    /* Of eight slabs the four layers have their centres in 1, 3, 5 and 7; each is needed from the layer below to that above. */
+    expect(mittenhelm_lifetimes(TREE, 3, first, 64, last, 64, needed, 8, &greatest) == MITTENHELM_ACCEPTED && greatest == 48,
+        "lifetimes");
+    expect(first[0] == 1 && last[0] == 3 && first[7] == 1 && last[7] == 5 && first[56] == 3 && last[56] == 7 && first[63] == 5
+        && last[63] == 7, "a leaf of each layer");
+    expect(needed[0] == 0 && needed[1] == 32 && needed[3] == 48 && needed[4] == 32 && needed[7] == 32, "numbers of leaves");
+    expect(mittenhelm_lifetimes_trusting(keys, 1, firsts, 0, 1, first, 1, last, 1, needed, 2, &greatest) == MITTENHELM_ACCEPTED
+        && first[0] == 1 && last[0] == 0 && needed[0] == 0 && needed[1] == 0 && greatest == 0, "the root alone is never needed");
+    expect(first[1] == 1 && last[1] == 3 && needed[2] == 32, "behind the root's report");
 }
 
 /* Reads the tree that the last build left. Its distances are 1 for the root, then 2, 3 and so on, 73 for the last cell. */
@@ -317,6 +373,7 @@ static void read_tree(uint64_t middle)
     read_cells(vertices + 3);
     list_in_one_pass();
     read_slabs(middle);
+    read_lifetimes();
 }
 
 int main(void)
