@@ -32,6 +32,16 @@ function table(what, places, size, of_4096, of_1024) {
         all[room] += bytes[room]
 }
 
+# A table in memory that was lent before for what isn't needed any more: it is among what is lent while reading, and adds to no other sum.
+function lent_again(what, places, size, of_4096, of_1024) {
+    bytes[4096] = size * of_4096
+    bytes[1024] = size * of_1024
+    if (part == "lent")
+        lends(what, places, bytes)
+    for (room in bytes)
+        again[room] += bytes[room]
+}
+
 # What is lent so far goes into a sum.
 function sum_up(sum) {
     for (room in all)
@@ -88,12 +98,14 @@ END {
     table("vertices", "19s of 8 bytes, for s splits", 8, listed[4096], listed[1024])
     table("their levels", "as many of 1 byte", 1, listed[4096], listed[1024])
     table("a dual cell", "8 keys, 8 distances, 8 places, the number tried", 164, 1, 1)
+    lent_again("first and last slabs of leaves", "2 x (7n + 1)/8 of 4 bytes, in the queue's memory", 8, leaves[4096], leaves[1024])
+    table("leaves needed by slab", "one of 4 bytes for each of, here, 1,024 slabs, and the greatest", 4, 1024 + 1, 1024 + 1)
     for (room in all)
-        reading[room] = tree[room] + all[room] - building[room]
+        reading[room] = tree[room] + all[room] - building[room] + again[room]
     if (part == "lent") {
         lends("while building", "the first six", building)
         lends("while reading", "all but queue, state and request", reading)
-        lends("all at once", "nothing lent twice", all)
+        lends("all at once", "nothing lent twice but the queue's memory", all)
         exit
     }
 
@@ -114,7 +126,7 @@ END {
     build_stack = stack["mittenhelm_distance"] > stack["mittenhelm_start"] ? stack["mittenhelm_distance"] : stack["mittenhelm_start"]
     line("a print of 4,096 nodes while building: tables, stack, code and constants", building[4096] + build_stack + program)
     line("while reading", reading[4096] + deepest + program)
-    line("the whole of a print's calls, nothing lent twice, of 262,144", whole)
+    line("the whole of a print's calls, nothing lent twice but the queue's memory, of 262,144", whole)
     if (whole > 262144)
         fail("a print's calls need " whole " bytes, more than 256 KiB")
 }

@@ -37,14 +37,15 @@ static uint16_t firsts[MOST_NODES];
 static uint64_t vertices[MOST_VERTICES];
 static uint8_t levels[MOST_VERTICES];
 static uint64_t places[8 * MOST_VERTICES];
-static uint64_t node_room, leaf_room, node_count, leaf_count, vertex_room, vertex_count;
+static uint32_t first_slabs[MOST_LEAVES], last_slabs[MOST_LEAVES], needed[1 << LIMIT];
+static uint64_t node_room, leaf_room, node_count, leaf_count, vertex_room, vertex_count, report_room;
 static uint32_t bound, level, which, exponent;
 static uint64_t given, other;
 static float distance;
 
 static uint64_t key_out, place_out, cell_keys[8], cell_places[8];
 static float x_out, y_out, z_out, half_out, distance_out, cell_distances[8];
-static uint32_t number_out, first_out, last_out;
+static uint32_t number_out, first_out, last_out, greatest_out;
 
 /* The paint. */
 
@@ -137,6 +138,7 @@ static uint64_t answer;
 #define FOUND &key_out, &distance_out, &place_out, &number_out
 #define CELL cell_keys, cell_distances, cell_places, &number_out
 #define SLABS given, level, exponent, &first_out, &last_out
+#define REPORT exponent, first_slabs, report_room, last_slabs, report_room, needed, 1 << LIMIT, &greatest_out
 
 CALL(level, (given))
 CALL(is_cell, (given))
@@ -157,16 +159,18 @@ CALL(look_up, (TREE, given, FOUND))
 CALL(list, (TREE, LIST))
 CALL(dual_cell, (TREE, given, level, CELL))
 CALL(slabs, (TREE, SLABS))
+CALL(lifetimes, (TREE, REPORT))
 CALL(look_up_trusting, (NODES, given, FOUND))
 CALL(list_trusting, (WAYS, LIST))
 CALL(cells_trusting, (WAYS, given, CELLS))
 CALL(dual_cell_trusting, (NODES, given, level, CELL))
 CALL(slabs_trusting, (WAYS, SLABS))
+CALL(lifetimes_trusting, (WAYS, REPORT))
 
 static struct call *const calls[] = {&call_level, &call_is_cell, &call_parent, &call_add, &call_sub, &call_child, &call_half_size,
     &call_centre, &call_vertex, &call_is_inner, &call_side, &call_should_refine, &call_start, &call_distance, &call_sound,
-    &call_look_up, &call_list, &call_dual_cell, &call_slabs, &call_look_up_trusting, &call_list_trusting, &call_cells_trusting,
-    &call_dual_cell_trusting, &call_slabs_trusting};
+    &call_look_up, &call_list, &call_dual_cell, &call_slabs, &call_lifetimes, &call_look_up_trusting, &call_list_trusting,
+    &call_cells_trusting, &call_dual_cell_trusting, &call_slabs_trusting, &call_lifetimes_trusting};
 
 /* Inputs. */
 
@@ -359,6 +363,10 @@ static void list_too_deep(void)
     given = 0;
     measure(&call_cells_trusting);
     expect(answer == vertex_count, "cells of a tree that is too deep");
+    exponent = LIMIT;
+    report_room = MOST_LEAVES;
+    measure(&call_lifetimes_trusting);
+    expect(answer == MITTENHELM_ACCEPTED && greatest_out > 0, "lifetimes in a tree that is too deep");
     node_count -= 8;
     firsts[parent] = 0;
 }
@@ -389,6 +397,24 @@ static void slabs_of_exponents(void)
     slabs(MITTENHELM_ABOVE_FIFTEEN, "slabs of an exponent above 15");
 }
 
+static void lifetimes(uint32_t expected, const char *what)
+{
+    measure_both(&call_lifetimes, &call_lifetimes_trusting, expected, what);
+}
+
+/* Lifetimes by every exponent, in tables that are just long enough and in such that aren't, and by one above 15. */
+static void lifetimes_of_exponents(void)
+{
+    for (exponent = 0; exponent <= LIMIT; exponent++) {
+        report_room = leaf_count;
+        lifetimes(MITTENHELM_ACCEPTED, "lifetimes");
+        expect((greatest_out > 0) == (leaf_count > 1) && greatest_out <= leaf_count, "a greatest number of leaves");
+        report_room = leaf_count - 1;
+        lifetimes(MITTENHELM_REPORT_SHORT, "lifetimes without room");
+    }
+    lifetimes(MITTENHELM_ABOVE_FIFTEEN, "lifetimes of an exponent above 15");
+}
+
 /* Every call that reads a tree, of all of its nodes and vertices. */
 static void read_all(void)
 {
@@ -396,6 +422,7 @@ static void read_all(void)
     expect(answer == 1, "a finished build is sound");
     list();
     cells();
+    lifetimes_of_exponents();
     for (uint64_t i = 0; i < node_count; i++) {
         given = keys[i];
         look_up(MITTENHELM_ACCEPTED, "look_up");
@@ -456,6 +483,7 @@ int main(void)
     level = 1;
     dual_cell(MITTENHELM_NOT_A_VERTEX, "dual_cell of the root alone");
     slabs(MITTENHELM_NOT_A_VERTEX, "slabs of the root alone");
+    lifetimes_of_exponents();
     for (size_t i = 0; i < sizeof calls / sizeof calls[0]; i++)
         printf("stack %s %zu\n", calls[i]->name, calls[i]->deepest);
     print_most_vertices(MOST_NODES);
