@@ -1,7 +1,7 @@
 //! Runs the benchmark and prints its report: `benchmark [--write [FILE]]`.
 
 use benchmark::measures::Row;
-use benchmark::report::{below_goal, growing_faster, report, with_kept_end};
+use benchmark::report::{below_goal, growing_faster, long_lifetimes, report, with_kept_end};
 use benchmark::trees::cases;
 use std::env;
 use std::fs;
@@ -58,6 +58,9 @@ fn measured() -> Result<String, String> {
     }
     for measure in growing_faster(&rows) {
         eprintln!("growing faster than the goal: {}", measure.name());
+    }
+    for exponent in long_lifetimes(&rows) {
+        eprintln!("above the goal: lifetimes of exponent {exponent}");
     }
     Ok(report(&rows))
 }

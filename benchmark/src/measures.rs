@@ -1,7 +1,7 @@
 //! What is measured of a tree, on each side.
 
 use crate::answers::Answers;
-use crate::ours::{look_ups, told, Batch, Building, Finished, Listing, EXPONENT};
+use crate::ours::{checked, look_ups, told, Batch, Building, Finished, Listing, Reporting, EXPONENT};
 use crate::rivals::{Hashed, Pointed};
 use crate::text::{Integer, Published, Text};
 use crate::timing::{best, run, run_prepared, Run};
@@ -105,6 +105,27 @@ impl Times {
     }
 }
 
+/// The exponents with which lifetimes are timed.
+pub const EXPONENTS: [u32; 3] = [0, 5, 10];
+
+/// Lifetimes shouldn't take longer than so many times all cells.
+pub const MOST_CELLS: f64 = 3.0;
+
+/// What lifetimes take, which are ours alone, beside all cells with the places of their nodes: both trust the tree. In seconds.
+#[derive(Clone, Copy, Debug)]
+pub struct Lifetimes {
+    pub cells: f64,
+    /// In the order of the exponents.
+    pub reports: [f64; EXPONENTS.len()],
+}
+
+impl Lifetimes {
+    /// How many times as long as all cells they take, by exponent.
+    pub fn ratios(&self) -> [f64; EXPONENTS.len()] {
+        self.reports.map(|report| report / self.cells)
+    }
+}
+
 /// What was measured of a tree.
 pub struct Row {
     pub case: Case,
@@ -112,6 +133,7 @@ pub struct Row {
     pub vertices: usize,
     /// In the order of the measures.
     pub times: Vec<Times>,
+    pub lifetimes: Lifetimes,
 }
 
 impl Row {
@@ -126,7 +148,8 @@ impl Row {
         }
         same_look_ups(case, &keys, &ours)?;
         let times = MEASURES.iter().map(|&measure| times(measure, case, &keys, as_published, least)).collect();
-        Ok(Row { case: case.clone(), leaves: ours.leaves.len(), vertices: ours.vertices.len(), times })
+        let lifetimes = lifetimes(case, least)?;
+        Ok(Row { case: case.clone(), leaves: ours.leaves.len(), vertices: ours.vertices.len(), times, lifetimes })
     }
 }
 
@@ -166,6 +189,24 @@ fn times(measure: Measure, case: &Case, keys: &[u64], as_published: bool, least:
     });
     let best = best(&mut runs, least);
     Times { ours: best[0], rivals: places.map(|place| place.map(|place| best[place])) }
+}
+
+/// Times lifetimes beside all cells, once they are seen to be those of the cells.
+fn lifetimes(case: &Case, least: Duration) -> Result<Lifetimes, String> {
+    let finished = finished(case);
+    let (tree, sound) = (finished.tree(), checked(finished.tree()));
+    let reporting = || Reporting::new(tree, 1 << EXPONENTS[EXPONENTS.len() - 1]);
+    if !EXPONENTS.iter().all(|&exponent| reporting().is_of_cells(sound, exponent)) {
+        return Err(format!("{} of {} nodes: the lifetimes are not those of the cells", case.field, case.nodes()));
+    }
+    let mut memory = reporting();
+    let mut runs = vec![run(move || memory.cells(sound))];
+    for exponent in EXPONENTS {
+        let mut memory = reporting();
+        runs.push(run(move || memory.lifetimes(sound, exponent)));
+    }
+    let best = best(&mut runs, least);
+    Ok(Lifetimes { cells: best[0], reports: [0, 1, 2].map(|i| best[1 + i]) })
 }
 
 fn finished(case: &Case) -> Finished {

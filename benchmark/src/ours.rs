@@ -199,6 +199,62 @@ impl Default for Batch {
     }
 }
 
+/// The memory of all vertices of a tree with the places of their nodes, by one call, and of a report of lifetimes.
+pub struct Reporting {
+    vertices: Vec<u64>,
+    levels: Vec<u8>,
+    places: Vec<u64>,
+    first: Vec<u32>,
+    last: Vec<u32>,
+    needed: Vec<u32>,
+}
+
+impl Reporting {
+    /// Room for a tree, and for so many slabs at most.
+    pub fn new(tree: Tree, slabs: usize) -> Self {
+        let (cells, leaves) = (most_vertices(tree.keys.len()), tree.leaves.len());
+        Reporting {
+            vertices: vec![0; cells],
+            levels: vec![0; cells],
+            places: vec![0; 8 * cells],
+            first: vec![0; leaves],
+            last: vec![0; leaves],
+            needed: vec![0; slabs],
+        }
+    }
+
+    /// All vertices with the places of their nodes; their number.
+    pub fn cells(&mut self, tree: SoundTree) -> usize {
+        tree.cells(0, &mut self.vertices, &mut self.levels, &mut self.places)
+    }
+
+    /// Reports when each leaf is needed; the greatest number.
+    pub fn lifetimes(&mut self, tree: SoundTree, exponent: u32) -> u32 {
+        let report = tree.lifetimes(exponent, &mut self.first, &mut self.last, &mut self.needed);
+        report.expect("room for the report")
+    }
+
+    /// Whether a report is what the cells come to, each with its slabs.
+    pub fn is_of_cells(&mut self, tree: SoundTree, exponent: u32) -> bool {
+        let count = self.cells(tree);
+        let mut spans = vec![(1, 0); self.first.len()];
+        for (i, places) in self.places.chunks_exact(8).take(count).enumerate() {
+            let slabs = tree.slabs(self.vertices[i], self.levels[i].into(), exponent);
+            let (first, last) = slabs.expect("a vertex of the tree").into_inner();
+            for &place in places {
+                let key = tree.tree().keys[place as usize];
+                let span: &mut (u32, u32) = &mut spans[tree.tree().leaves.binary_search(&key).expect("a leaf")];
+                *span = if span.0 > span.1 { (first, last) } else { (span.0.min(first), span.1.max(last)) };
+            }
+        }
+        let needed = |slab: u32| spans.iter().filter(|(first, last)| (*first..=*last).contains(&slab)).count() as u32;
+        let needed: Vec<u32> = (0..1 << exponent).map(needed).collect();
+        let greatest = self.lifetimes(tree, exponent);
+        let reported = self.first.iter().copied().zip(self.last.iter().copied());
+        reported.eq(spans.iter().copied()) && self.needed[..needed.len()] == needed && needed.iter().max() == Some(&greatest)
+    }
+}
+
 /// Checks the tree, and looks up each key; the sum of the keys found and of the bits of their distances.
 pub fn look_ups(tree: Tree, keys: &[u64]) -> u64 {
     let tree = checked(tree);

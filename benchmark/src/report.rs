@@ -1,7 +1,7 @@
 //! The report, in Markdown: the text is fixed, the numbers are those of a run.
 
 use crate::machine;
-use crate::measures::{Measure, Rival, Row, Times, MEASURES, RIVALS};
+use crate::measures::{Measure, Rival, Row, Times, EXPONENTS, MEASURES, MOST_CELLS, RIVALS};
 use crate::ours::{BATCH, EXPONENT, FORM};
 use crate::trees::{is_near, SIZES};
 
@@ -31,11 +31,18 @@ pub fn report(rows: &[Row]) -> String {
              less than there are vertices, and those grow faster than the nodes. The goal for ours is at most {MOST_GROWTH} by the second."
         ),
         growth(rows),
+        "## Lifetimes".to_string(),
+        format!(
+            "How many times as long as all cells with the places of their nodes a report takes, by slab exponent. The goal is at most {MOST_CELLS}."
+        ),
+        lifetimes(rows),
     ];
     for (i, measure) in MEASURES.iter().enumerate() {
         sections.push(format!("## Each tree: {}", measure.name()));
         sections.push(each_tree(rows, i));
     }
+    sections.push("## Each tree: lifetimes".to_string());
+    sections.push(lifetimes_of_each_tree(rows));
     sections.join("\n\n") + "\n"
 }
 
@@ -77,6 +84,9 @@ has no such call: it searches the eight nodes as for dual cells, takes the heigh
 highest, each multiplied by {slabs} and rounded down. As published its `center` puts the keys elsewhere whose `level` is wrong, and every tree has such a \
 leaf: so slabs are compared with the integer level's alone, and timed against it.
 - **Soundness** is ours alone: whether the tables hold a sound tree.
+- **Lifetimes** are ours alone too: from which slab to which each leaf is needed, and how many are at each slab, of {exponents} as the slab exponent. \
+They are timed beside all cells with the places of their nodes, which one call writes into room for all of them; neither checks the tree. Before that, the \
+report is seen to be what the cells and their slabs come to.
 - **Times** are the best of batches of calls. The sides take turns, a batch each, until each has had 50 milliseconds at least, so that a change of the \
 machine's speed meets both. A ratio is the other's time by ours: above 1, ours is the quicker. Goals are set against the Rust as published.",
         end = KEPT_FROM.trim_start_matches("## "),
@@ -85,6 +95,7 @@ machine's speed meets both. A ratio is the other's time by ours: above 1, ours i
         form = FORM,
         batch = BATCH,
         slabs = 1 << EXPONENT,
+        exponents = listed(&EXPONENTS.map(|exponent| exponent as usize)),
     )
 }
 
@@ -124,6 +135,43 @@ fn ratios(rows: &[Row]) -> String {
                 ]);
             }
         }
+    }
+    table.text()
+}
+
+/// What lifetimes take by what all cells take, in each tree.
+fn lifetime_ratios(rows: &[Row], exponent: usize) -> Vec<f64> {
+    rows.iter().map(|row| row.lifetimes.ratios()[exponent]).collect()
+}
+
+fn lifetimes(rows: &[Row]) -> String {
+    let mut table = Table::new(&["exponent", "goal", "trees", "geometric mean", "least", "greatest"]);
+    for (i, exponent) in EXPONENTS.iter().enumerate() {
+        let ratios = lifetime_ratios(rows, i);
+        table.add(vec![
+            exponent.to_string(),
+            format!("at most {MOST_CELLS}"),
+            ratios.len().to_string(),
+            format!("{:.2}", geometric_mean(&ratios)),
+            format!("{:.2}", ratios.iter().copied().fold(f64::INFINITY, f64::min)),
+            format!("{:.2}", ratios.iter().copied().fold(0.0, f64::max)),
+        ]);
+    }
+    table.text()
+}
+
+fn lifetimes_of_each_tree(rows: &[Row]) -> String {
+    let mut head: Vec<String> = ["field", "bound", "nodes", "leaves", "vertices", "cells µs"].map(str::to_string).into();
+    head.extend(EXPONENTS.iter().flat_map(|exponent| [format!("exponent {exponent} µs"), "ratio".to_string()]));
+    let mut table = Table { lines: vec![head] };
+    for row in rows {
+        let mut line = vec![row.case.field.to_string()];
+        line.extend([row.case.bound as usize, row.case.nodes(), row.leaves, row.vertices].map(grouped));
+        line.push(significant(1e6 * row.lifetimes.cells));
+        for (report, ratio) in row.lifetimes.reports.into_iter().zip(row.lifetimes.ratios()) {
+            line.extend([significant(1e6 * report), format!("{ratio:.2}")]);
+        }
+        table.add(line);
     }
     table.text()
 }
@@ -278,4 +326,10 @@ pub fn below_goal(rows: &[Row]) -> Vec<Measure> {
         matches!(goal, Some(goal) if geometric_mean(&ratios) < goal)
     };
     MEASURES.iter().copied().enumerate().filter(is_below).map(|(_, measure)| measure).collect()
+}
+
+/// With which exponents lifetimes take longer than their goal.
+pub fn long_lifetimes(rows: &[Row]) -> Vec<u32> {
+    let is_long = |&(i, _): &(usize, u32)| geometric_mean(&lifetime_ratios(rows, i)) > MOST_CELLS;
+    EXPONENTS.iter().copied().enumerate().filter(is_long).map(|(_, exponent)| exponent).collect()
 }

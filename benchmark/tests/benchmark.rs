@@ -1,9 +1,9 @@
 //! The benchmark on small trees, and its comparison of both sides' answers. No time is tested.
 
 use benchmark::answers::Answers;
-use benchmark::measures::{Measure, Row, Times, MEASURES};
-use benchmark::ours::{look_ups, Building};
-use benchmark::report::{below_goal, exponent, geometric_mean, growing_faster, report, with_kept_end, KEPT_FROM};
+use benchmark::measures::{Lifetimes, Measure, Row, Times, EXPONENTS, MEASURES};
+use benchmark::ours::{checked, look_ups, Building, Reporting};
+use benchmark::report::{below_goal, exponent, geometric_mean, growing_faster, long_lifetimes, report, with_kept_end, KEPT_FROM};
 use benchmark::rivals::{Hashed, Pointed};
 use benchmark::text::{Integer, Published};
 use benchmark::trees::{cases, is_near, Case, SHAPES, SIZES};
@@ -40,6 +40,30 @@ fn runs_on_small_trees() {
         };
         assert_eq!(columns, expected, "{table}");
     }
+    let table = report.split("## Each tree: lifetimes\n").nth(1).expect("a table of lifetimes");
+    assert_eq!(table.lines().filter(|line| line.starts_with("| sphere")).count(), rows.len(), "{report}");
+    assert_eq!(
+        table.lines().find(|line| line.starts_with("| field")).expect("a head").matches("µs").count(),
+        1 + EXPONENTS.len()
+    );
+}
+
+/// A report of the tree's cells is told from one of another tree's.
+#[test]
+fn lifetimes_are_those_of_the_cells() {
+    let mut building = Building::new();
+    let [few, many] = [2, 3].map(|bound| {
+        let case = case(bound);
+        let state = building.build_ready(case.bound, &case.distances).expect("room for the tree");
+        building.finished(state)
+    });
+    for finished in [&few, &many] {
+        for exponent in EXPONENTS {
+            assert!(Reporting::new(finished.tree(), 1 << exponent).is_of_cells(checked(finished.tree()), exponent));
+        }
+    }
+    // Room for more leaves leaves what was there before.
+    assert!(!Reporting::new(many.tree(), 1).is_of_cells(checked(few.tree()), 0));
 }
 
 /// The other lookups find what ours finds, key by key: the root and what is below it, at every level and below every leaf.
@@ -64,7 +88,8 @@ fn row(nodes: usize, vertices: usize, ours: f64, ratio: f64) -> Row {
     let mut case = case(2);
     case.distances.resize(nodes, 1.0);
     let times = Times { ours, rivals: [Some(ours * ratio), None, None, None] };
-    Row { case, leaves: 0, vertices, times: vec![times; MEASURES.len()] }
+    let lifetimes = Lifetimes { cells: ours, reports: [ours, ours * ratio, 2.5 * ours] };
+    Row { case, leaves: 0, vertices, times: vec![times; MEASURES.len()], lifetimes }
 }
 
 /// Goals are told of by name: ratios by their mean, growth by the fit to nodes + vertices and not to nodes.
@@ -75,6 +100,7 @@ fn goals() {
     assert_eq!(below_goal(&rows(9.9)), vec![Measure::ListAndDualCells]);
     assert_eq!(below_goal(&rows(5.9)), vec![Measure::List, Measure::ListAndDualCells, Measure::LookUps]);
     assert_eq!(below_goal(&rows(1.9)), MEASURES[..5]);
+    assert_eq!([3.1, 2.9].map(|ratio| long_lifetimes(&rows(ratio))), [vec![5], vec![]]);
     assert_eq!(growing_faster(&rows(1.0)), vec![]);
     assert_eq!(growing_faster(&[row(100, 100, 1.0, 1.0), row(1000, 1000, 15.0, 1.0)]), MEASURES);
 }

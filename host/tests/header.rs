@@ -164,7 +164,8 @@ fn kept(bound: u32, exponent: u32) -> String {
                 inside += distances.iter().filter(|&&bits| f32::from_bits(bits) < 0.0).count();
             }
         }
-        let line = format!("slab {slab}: {got} leaves got, {held} held, {freed} freed; {cells} cells read, {inside} entries inside");
+        let line =
+            format!("slab {slab}: {got} leaves got, {held} held, {freed} freed; {cells} cells read, {inside} entries inside");
         writeln!(text, "{line}").expect("a String takes all that is written");
     }
     text
