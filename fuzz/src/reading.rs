@@ -124,8 +124,11 @@ pub struct Given {
     vertices: Vec<(u64, u32)>,
     /// What one comes to who trusts the tree.
     descent: Descent,
-    /// The walk of one who trusts it, once it was asked for.
+    /// The walk of one who trusts it, and what the tree needs its leaves for, to one who checks it and to one who trusts it; once they were
+    /// asked for.
     walk: RefCell<Option<Rc<Walk>>>,
+    checked_needs: RefCell<Option<Rc<Answer<Needs>>>>,
+    trusted_needs: RefCell<Option<Rc<Needs>>>,
 }
 
 impl Given {
@@ -141,6 +144,8 @@ impl Given {
             descent: tables.descent(),
             tables,
             walk: RefCell::new(None),
+            checked_needs: RefCell::new(None),
+            trusted_needs: RefCell::new(None),
         }
     }
 
@@ -415,17 +420,21 @@ impl Given {
     }
 
     fn lifetimes(&self, case: &mut Case) -> Checked {
+        let needs = || Rc::new(Needs::of_sound(&self.tables, &self.reading));
+        let needs = self.checked_needs.borrow_mut().get_or_insert_with(needs).clone();
         self.lifetimes_by(
             case,
             "lifetimes",
             |exponent, first, f, last, l, needed, n, greatest| {
                 with_tree!(mittenhelm_lifetimes, self, exponent, first, f, last, l, needed, n, greatest)
             },
-            |exponent| Needs::of_sound(&self.tables, &self.reading)?.lifetimes(exponent),
+            |exponent| needs.as_ref().as_ref().map_err(|&number| number)?.lifetimes(exponent),
         )
     }
 
     fn lifetimes_trusting(&self, case: &mut Case) -> Checked {
+        let needs = || Rc::new(Needs::of_trusted(&self.tables, &self.walk()));
+        let needs = self.trusted_needs.borrow_mut().get_or_insert_with(needs).clone();
         self.lifetimes_by(
             case,
             "lifetimes_trusting",
@@ -444,7 +453,7 @@ impl Given {
                     greatest
                 )
             },
-            |exponent| Needs::of_trusted(&self.tables, &self.walk()).lifetimes(exponent),
+            |exponent| needs.lifetimes(exponent),
         )
     }
 
