@@ -1,5 +1,6 @@
 //! Vertices and dual cells of real trees against the published text: its `compute_primal_vertices`, as a set with levels, and the
-//! search for eight nodes of its `extract_surface`. The slabs of the cells are those of the heights that its `center` has.
+//! search for eight nodes of its `extract_surface`. The slabs of the cells, and from which to which a leaf is needed, are those of the
+//! heights that its `center` has.
 
 use crate::calls::{Given, Seen};
 use oracle_answers::fields::{field, Kind};
@@ -23,6 +24,8 @@ struct Compared {
     own_reached: u64,
     /// Cells whose slabs are those of the published build's centres too, since no level of a node differs.
     published_slabs: u64,
+    /// Leaves that are needed, by exponent.
+    needed: [u64; 16],
 }
 
 type Vertices = Vec<(u64, usize)>;
@@ -45,6 +48,24 @@ fn compare_slabs(given: &Given, vertex: u64, level: u32, centres: [[f32; 3]; 8])
         let slabs = [lowest, highest].map(|height| (height * (1 << exponent) as f32) as u32);
         assert_eq!(given.ask_slabs_trusting(vertex, level, exponent), (0, slabs), "{vertex:#x}, {level}, {exponent}");
     }
+}
+
+/// When each leaf is needed, by the integer build's centres of the nodes of all cells.
+fn compare_lifetimes(given: &Given, cells: &[(u64, u32, DualCell)], exponent: u32, compared: &mut Compared) {
+    let mut spans: BTreeMap<u64, [u32; 2]> = BTreeMap::new();
+    for (_, _, cell) in cells {
+        let slabs = cell.keys.map(|key| (integer::center(key)[2] * (1 << exponent) as f32) as u32);
+        let (first, last) = slabs.iter().fold((u32::MAX, 0), |(first, last), &slab| (first.min(slab), last.max(slab)));
+        for key in cell.keys {
+            let span = spans.entry(key).or_insert([first, last]);
+            *span = [span[0].min(first), span[1].max(last)];
+        }
+    }
+    compared.needed[exponent as usize] += spans.len() as u64;
+    // No cell has the root alone.
+    let expected: Vec<[u32; 2]> = given.tables.leaves.iter().map(|leaf| spans.remove(leaf).unwrap_or([1, 0])).collect();
+    assert!(spans.is_empty(), "cells have what is no leaf: {spans:?}");
+    assert!(given.ask_lifetimes(exponent) == expected, "exponent {exponent} of {:?}", given.tables.keys);
 }
 
 fn eight(cell: DualCell) -> ([u64; 8], [u32; 8]) {
@@ -78,6 +99,10 @@ fn compare(given: &Given, seen: &mut Seen, compared: &mut Compared) -> Vec<(u64,
                 compare_slabs(given, vertex, level, cell.keys.map(published::center));
                 compared.published_slabs += 1;
             }
+        }
+        // Each exponent in turn, and a fine one.
+        for exponent in [compared.trees as u32 % 16, 15 - compared.trees as u32 % 2] {
+            compare_lifetimes(given, &ours, exponent, compared);
         }
     }
     ours
@@ -172,6 +197,7 @@ fn trees_of(kind: Kind) {
         assert!(compared.published > compared.vertices / 10 * 8 && compared.reached >= compared.trees, "{compared:?}");
         assert!(compared.own_cells > compared.vertices / 10 * 8 && compared.own_reached >= compared.trees, "{compared:?}");
         assert!(compared.published_slabs > compared.vertices / 10 * 8, "{compared:?}");
+        assert!(compared.needed.iter().all(|&leaves| leaves > 64), "{compared:?}");
     }
 }
 
@@ -188,6 +214,7 @@ fn grown_trees() {
         if compares_with_text() {
             compare_published(&given, &ours, &mut compared);
         }
+        compared.trees += 1;
         deepest += (level(*given.tables.keys.last().expect("a root")) == 15) as u64;
     }
     println!("grown trees, {deepest} of level 15: {compared:?}");
