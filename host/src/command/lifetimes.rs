@@ -34,11 +34,14 @@ const BAND: &str = "0.25";
 const INK: &str = "#222";
 const FAINT: &str = "#d7dee6";
 
-/// How bars are coloured, by the level of the leaf: from coarse to fine, and again from level 8 on.
-const LEVELS: [&str; 8] = ["#6b4c9a", "#3969b1", "#2a9d9d", "#3e9651", "#a5a832", "#da7c30", "#cc4c4c", "#8c6d4f"];
+/// How bars are coloured, by the level of the leaf, which is at most 15: the usual ones strong, the finest pale.
+const LEVELS: [&str; 16] = [
+    "#444444", "#6b4c9a", "#2a9d9d", "#3e9651", "#a5a832", "#da7c30", "#cc4c4c", "#8c6d4f", "#3969b1", "#b07fc7", "#7fc9c9",
+    "#8fd09c", "#d9dc7f", "#f2b98a", "#eb9c9c", "#c9b39c",
+];
 
 fn colour(level: u32) -> &'static str {
-    LEVELS[level as usize % LEVELS.len()]
+    LEVELS[level as usize]
 }
 
 pub fn draw(part: &Part, cut: &Cut, reading: &Reading) -> String {

@@ -6,7 +6,9 @@ use super::grid::Grid;
 use super::output::shown;
 use super::progress::Progress;
 use std::ffi::OsStr;
-use std::path::Path;
+use std::fs;
+use std::os::unix::fs::MetadataExt;
+use std::path::{Path, PathBuf};
 
 pub struct Part {
     pub name: String,
@@ -15,7 +17,7 @@ pub struct Part {
 
 enum Kind {
     BuiltIn(&'static BuiltIn),
-    Sampled(Grid),
+    Sampled(Grid, PathBuf),
 }
 
 impl Part {
@@ -23,7 +25,7 @@ impl Part {
         let kind = match word.to_str().and_then(named) {
             Some(part) => Kind::BuiltIn(part),
             None if is_plain_name(word) => return Err(unknown(word)),
-            None => Kind::Sampled(Grid::read(Path::new(word), progress)?),
+            None => Kind::Sampled(Grid::read(Path::new(word), progress)?, PathBuf::from(word)),
         };
         Ok(Part { name: shown(word), kind })
     }
@@ -31,14 +33,23 @@ impl Part {
     pub fn distance(&self, point: Point) -> f32 {
         match &self.kind {
             Kind::BuiltIn(part) => (part.distance)(point),
-            Kind::Sampled(grid) => grid.distance(point),
+            Kind::Sampled(grid, _) => grid.distance(point),
+        }
+    }
+
+    /// Whether a path leads to the file that it was read from, which no result should replace.
+    pub fn is_in(&self, path: &Path) -> bool {
+        let file = |path: &Path| fs::metadata(path).ok().filter(|found| found.is_file()).map(|found| (found.dev(), found.ino()));
+        match &self.kind {
+            Kind::BuiltIn(_) => false,
+            Kind::Sampled(_, own) => file(own).is_some() && file(own) == file(path),
         }
     }
 
     pub fn about(&self) -> String {
         match &self.kind {
             Kind::BuiltIn(part) => part.about.to_string(),
-            Kind::Sampled(grid) => format!("{} samples", grid.size),
+            Kind::Sampled(grid, _) => format!("{} samples", grid.size),
         }
     }
 }

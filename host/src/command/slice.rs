@@ -23,13 +23,16 @@ pub fn run(words: &[OsString]) -> Result<(), Fault> {
     let table = arguments.read("--csv", &csv::names(), csv::named)?;
     let picture = picture(&arguments, &cut)?;
     let bars = arguments.path("--lifetimes")?;
-    if let (Some((slab, _)), true) = (picture, picture.map(|(path, _)| path) == bars) {
-        let name = shown(slab.as_os_str());
-        return Err(Fault::arguments(format!("--svg and --lifetimes both name {name:?}, which holds one picture")));
+    let paths = [("--svg", picture.map(|(path, _)| path)), ("--lifetimes", bars)];
+    if bars.is_some() && paths[0].1 == bars {
+        return Err(Fault::arguments("--svg and --lifetimes name one file, which holds one picture"));
     }
 
     let mut progress = Progress::new();
     let part = Part::find(word, &mut progress)?;
+    if let Some((option, _)) = paths.iter().find(|(_, path)| path.map_or(false, |path| part.is_in(path))) {
+        return Err(Fault::arguments(format!("{option} names the part's own file")));
+    }
     let mut lent = Lent::new(cut.nodes);
     let built = Built::new(|point| part.distance(point), cut.bound, lent.tables(), &mut progress)?;
     let reading = Reading::new(&built.tree(), cut.exponent, &mut progress)?;

@@ -43,7 +43,8 @@ fn check_bars(elements: &[Element], rows: &[Row], slabs: usize) {
         colours.insert((level, bar.attributes["fill"].clone()));
     }
     let levels: BTreeSet<u32> = rows.iter().map(|row| row.3).collect();
-    assert_eq!(colours.len(), levels.len(), "a level has one colour");
+    let fills: BTreeSet<&String> = colours.iter().map(|(_, fill)| fill).collect();
+    assert_eq!([colours.len(), fills.len()], [levels.len(); 2], "a level has one colour of its own");
     for (_, fill) in &colours {
         let is_key = |e: &&Element| e.attributes.get("class").map(String::as_str) == Some("key") && e.attributes["fill"] == *fill;
         assert!(elements.iter().any(|e| is_key(&e)), "no key for {fill}");
@@ -157,5 +158,22 @@ fn beside_others() {
     assert_eq!(text, printed(&["slice", "box", "--csv", "leaves"]));
     one_line(1, &["slice", "box", "--csv", "leaves", "--lifetimes", "/dev/full"]);
     let said = one_line(2, &["slice", "box", "--svg", two, "--lifetimes", two]);
-    assert!(said.contains("--svg and --lifetimes both name "), "{said}");
+    assert!(said.contains("--svg and --lifetimes name one file"), "{said}");
+}
+
+/// No picture replaces the part, by whatever way it is named.
+#[test]
+fn in_place_of_the_part() {
+    let bytes = grid([2, 2, 2], |_| 1.0);
+    let part = saved("own.grid", &bytes);
+    let link = file("own-link.svg");
+    let _ = fs::remove_file(&link);
+    std::os::unix::fs::symlink(&part, &link).expect("a link");
+    for option in ["--svg", "--lifetimes"] {
+        for path in [&part, link.to_str().expect("plain text")] {
+            let said = one_line(2, &["slice", &part, option, path]);
+            assert!(said.starts_with(&format!("mittenhelm: {option} names the part's own file ")), "{said}");
+        }
+    }
+    assert_eq!(fs::read(&part).expect("the part"), bytes);
 }

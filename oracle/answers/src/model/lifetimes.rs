@@ -1,5 +1,4 @@
-//! From which slab to which each leaf is needed: cell by cell, leaf by leaf and slab by slab. No count of one slab is made from that of
-//! another, and no leaf's number from that of another.
+//! From which slab to which each leaf is needed: cell by cell, leaf by leaf and slab by slab. No slab's number is made from another's.
 
 use super::reading::{Height, Reach, Reading, Slabs, Tables, Walk, GREATEST_EXPONENT};
 use super::Answer;
