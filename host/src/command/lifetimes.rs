@@ -26,7 +26,7 @@ const ROW: f64 = 12.0;
 const MOST_BARS: f64 = NAMED as f64 * ROW;
 
 /// Nothing is drawn narrower, however thin the slabs are.
-const LEAST: f64 = 1.0;
+const LEAST: f64 = 2.0;
 
 const COUNTED: &str = "#b9c7d6";
 const GREATEST: &str = "#b3123a";

@@ -23,10 +23,10 @@ fn is_near(a: f64, b: f64) -> bool {
     (a - b).abs() < 1e-6
 }
 
-/// Whether an element reaches exactly from one slab to another, of so many in a frame; what would be narrower than a unit has one.
+/// Whether an element reaches exactly from one slab to another, of so many in a frame; what would be narrower than two units has two.
 fn spans(element: &Element, [left, _, width, _]: [f64; 4], slabs: usize, first: usize, last: usize) -> bool {
     let at = |slab: usize| left + width * slab as f64 / slabs as f64;
-    let wide = (at(last + 1) - at(first)).max(1.0);
+    let wide = (at(last + 1) - at(first)).max(2.0);
     is_near(element.number("width"), wide) && is_near(element.number("x"), at(first).min(left + width - wide))
 }
 
