@@ -15,5 +15,6 @@ pub mod Demands
 pub mod Reading
 pub mod Slabs
 pub mod Batches
+pub mod Lifetimes
 pub mod Most
 pub mod Rooms

@@ -12,19 +12,19 @@ use lib.ListN.{length, getD}
 use lib.Pow.{pow-add, pow-pos}
 use lib.Dec.{lit<}
 use Rattle.morton.specs.Field.{bit, coord, key}
-use Rattle.morton.specs.Level.{deepest, limit, level, Cell}
+use Rattle.morton.specs.Level.{deepest, limit, level}
 use Rattle.morton.specs.Vertex.{isInner, sideOf}
 use Rattle.morton.proofs.Fields.{key-ext}
 use Rattle.morton.proofs.Vertices.{inner-level}
 use Rattle.tree.specs.Tree.{Tree, In, Sound}
 use Rattle.tree.proofs.Lists.{order}
 use Rattle.geometry.specs.Corner.{Corner, StrictlyInside}
-use Rattle.geometry.specs.Listing.{Listed}
-use Rattle.geometry.proofs.Place.{OnGrid, side, side-of-corner, key-up, on-grid}
-use Rattle.geometry.proofs.Vertex.{inner-grid}
+use Rattle.geometry.specs.Listing.{given, Listed}
+use Rattle.geometry.proofs.Place.{OnGrid, side, side-of-corner, side-above, corner-grid, key-up, on-grid, inner-level as grid-level}
+use Rattle.geometry.proofs.Vertex.{vertex-corner, inner-grid}
 use Rattle.geometry.proofs.Shape.{sound-shape-to}
 use Rattle.geometry.proofs.Lookup.{found-leaf}
-use Rattle.geometry.proofs.Listing.{giver, listed-strict, listed-corner}
+use Rattle.geometry.proofs.Listing.{giver, listed-strict}
 use Rattle.dual.specs.declared.Dual.{Dual}
 use Rattle.dual.specs.declared.Tried.{Tried}
 use Rattle.dual.specs.declared.Tried.the-variants as tried
@@ -86,7 +86,7 @@ module _ (L l n k : ℕ) (low : l ≤ L) (deep : L ≤ deepest) where
 
 -- ---- the cells on two sides of a vertex, one above the other
 
--- the cells over them are one, if they are on z
+-- the cells over them are one, if their coordinates are on each axis
 same-over : (L l v i j : ℕ) → l ≤ L → ((a : ℕ) → a < 3 → (coord deepest v a / 2 ^ (deepest - L) - bit a i) / 2 ^ (L - l) ≡ (coord deepest v a / 2 ^ (deepest - L) - bit a j) / 2 ^ (L - l))
     → side L v i / 8 ^ (L - l) ≡ side L v j / 8 ^ (L - l)
 unfolding side
@@ -100,7 +100,11 @@ same-over L l v i j h same = up i ∙ key-ext l (λ a. (x a - bit a i) / 2 ^ (L 
 
 -- ---- a listed vertex lies between its nodes' centres
 
--- bits 0 and 1 of u and u + 4 are the same, and bit 2 isn't
+-- no leaf is deeper than the limit
+within : (t : Tree) → Sound t → (k : ℕ) → In k (t .leaves) → level k ≤ limit
+within t sound k i = sound .cells k (sound .leaves-childless k i .0) .1
+
+-- bits 0 and 1 of u and u + 4 are the same
 beside : (u : ℕ) → u < 4 → (a : ℕ) → a < 2 → bit a u ≡ bit a (u + 4)
 beside u h zero l = omega arith
 beside u h (suc zero) l = omega arith
@@ -122,14 +126,11 @@ module _ (t : Tree) (sound : Sound t) (vs ls : List ℕ) (list : Listed (t .leav
   abbrev L : ℕ
   L = getD ls j 0
 
-  within : (k : ℕ) → In k (t .leaves) → level k ≤ limit
-  within k i = sound .cells k (sound .leaves-childless k i .0) .1
-
   few : (k : ℕ) → In k (t .leaves) → level k ≤ 20
-  few = shallow t sound limit (omega arith) within
+  few = shallow t sound limit (omega arith) (within t sound)
 
   inner : isInner L v ≡ true
-  inner = listed-inner t sound limit (omega arith) within vs ls list j l
+  inner = listed-inner t sound limit (omega arith) (within t sound) vs ls list j l
 
   strict : StrictlyInside v
   strict = listed-strict (t .leaves) vs ls few list j l
@@ -137,26 +138,26 @@ module _ (t : Tree) (sound : Sound t) (vs ls : List ℕ) (list : Listed (t .leav
   word : v < 2 ^ 64
   word = omega (arith, strict .point .high)
 
-  leaf-at : (i : ℕ) → i < 8 → In (getD keys i 0) (t .leaves)
-  leaf-at i h = dual-read t sound limit (omega arith) within vs ls list j l keys distances places tried c i h .leaf
+  pub leaf-at : (i : ℕ) → i < 8 → In (getD keys i 0) (t .leaves)
+  leaf-at i h = dual-read t sound limit (omega arith) (within t sound) vs ls list j l keys distances places tried c i h .leaf
 
   -- a leaf over the cell on a side is the entry there
   one-over : (i k : ℕ) → i < 8 → In k (t .leaves) → 1 ≤ level k → level k ≤ L → side L v i / 8 ^ (L - level k) ≡ k → getD keys i 0 ≡ k
   one-over i k h leaf some low over =
       let d = level-side t L v word inner c i h in
-      found-leaf limit t (sound-shape-to limit t sound within) k leaf (sideOf L v i) some (omega (arith, d))
+      found-leaf limit t (sound-shape-to limit t sound (within t sound)) k leaf (sideOf L v i) some (omega (arith, d))
       (ap₂ (λ (x m : ℕ). x / 8 ^ (m - level k)) (side-is t L v word inner c i h) d ∙ over) (c .entry i h)
 
-  -- the leaf that gives the vertex is the entry at its corner
-  its-own : getD keys (giver (t .leaves) vs ls few list j l .corner) 0 ≡ giver (t .leaves) vs ls few list j l .leaf
-  its-own =
-      let g = giver (t .leaves) vs ls few list j l in
-      let low = inner-level L v inner in
-      let cell : Cell L (g .leaf) = subst (λ (m : ℕ). Cell m (g .leaf)) (g .at-level) (sound .cells (g .leaf) (sound .leaves-childless (g .leaf) (g .is-leaf) .0) .0) in
-      let z : L - level (g .leaf) ≡ 0 = omega (arith, g .at-level) in
-      let at : side L v (g .corner) ≡ g .leaf = side-of-corner L (g .leaf) (g .corner) v cell (subst (λ (m : ℕ). Corner m (g .leaf) (g .corner) v) (g .at-level) (listed-corner (t .leaves) vs ls few list j l)) in
-      one-over (g .corner) (g .leaf) (g .is-corner) (g .is-leaf) (omega (arith, g .at-level)) (omega (arith, g .at-level))
-      (ap (λ (n : ℕ). side L v (g .corner) / 8 ^ n) z ∙ omega arith ∙ at)
+  -- a leaf that gives the vertex is the entry at its corner
+  pub its-own : (k w : ℕ) → In k (t .leaves) → w < 8 → given k w ≡ v → getD keys w 0 ≡ k
+  its-own k w leaf h e =
+      let deep = inner-level L v inner in
+      let low : level k ≤ L = list .greatest j k w l leaf h e in
+      let corner : Corner (level k) k w v = vertex-corner (level k) k w v e (list .from j l .0) in
+      let grid : OnGrid (level k) v = corner-grid (level k) k w v corner in
+      one-over w k h leaf (grid-level (level k) v strict grid) low
+      (side-above (level k) L w v low (omega arith) strict grid
+      ∙ side-of-corner (level k) k w v (sound .cells k (sound .leaves-childless k leaf .0) .0) corner)
 
   -- how high it lies in cells of its level, which is above 0
   abbrev up : ℕ
@@ -189,9 +190,10 @@ module _ (t : Tree) (sound : Sound t) (vs ls : List ℕ) (list : Listed (t .leav
   apart : getD keys u 0 ≡ getD keys (u + 4) 0 → ⊥
   apart same =
       let g = giver (t .leaves) vs ls few list j l in
+      let own : getD keys (g .corner) 0 ≡ g .leaf = its-own (g .leaf) (g .corner) (g .is-leaf) (g .is-corner) (g .gives) in
       let one : getD keys u 0 ≡ g .leaf =
-      ⊎-elim (λ h. let e : u ≡ g .corner = omega arith in ap (λ (i : ℕ). getD keys i 0) e ∙ its-own)
-      (λ h. let e : u + 4 ≡ g .corner = omega (arith, g .is-corner) in same ∙ ap (λ (i : ℕ). getD keys i 0) e ∙ its-own) (order (g .corner) 4) in
+      ⊎-elim (λ h. let e : u ≡ g .corner = omega arith in ap (λ (i : ℕ). getD keys i 0) e ∙ own)
+      (λ h. let e : u + 4 ≡ g .corner = omega (arith, g .is-corner) in same ∙ ap (λ (i : ℕ). getD keys i 0) e ∙ own) (order (g .corner) 4) in
       let a = level-height t L v word inner c u (omega arith) (ap level one ∙ g .at-level) in
       let b = level-height t L v word inner c (u + 4) (omega arith) (ap level (sym same ∙ one) ∙ g .at-level) in
       omega (arith, a, b, ap (λ (x : ℕ). coord L x 2) same, up-is)
@@ -248,7 +250,7 @@ module _ (t : Tree) (sound : Sound t) (vs ls : List ℕ) (list : Listed (t .leav
 
 -- what is reached is that of the dual cell
 module _ (t : Tree) {L v s first last : ℕ} where
-  reaching : SlabsSays t L v s (Reach first last)
+  pub reaching : SlabsSays t L v s (Reach first last)
       → (c : Dual) → DualSays t L v (c .keys) (c .distances) (c .places) (c .tried)
       → Sound t × (isInner L v ≡ true) × ((n : ℕ) × DualCell t L v (c .keys) (c .distances) (c .places) n) × Reaches (c .keys) s first last
   reaching (b, says, of) c cell =
@@ -303,9 +305,8 @@ has-vertex t sound vs ls list j l s h (Reach first last) says =
     let (S, inner, (n, d), r) = reaching t says (says .0) (says .1) in
     vertex-between t sound vs ls list j l d s r
 has-vertex t sound vs ls list j l s h (Refused k) says =
-    let within : (k : ℕ) → In k (t .leaves) → level k ≤ limit = λ k i. sound .cells k (sound .leaves-childless k i .0) .1 in
-    let inner = listed-inner t sound limit (omega arith) within vs ls list j l in
-    let more = listed-more t sound limit (omega arith) within vs ls list j l in
+    let inner = listed-inner t sound limit (omega arith) (within t sound) vs ls list j l in
+    let more = listed-more t sound limit (omega arith) (within t sound) vs ls list j l in
     ⊎-elim (λ x. x .0 sound)
     (λ y. ⊎-elim (λ x. some-cell (t .keys) (getD ls j 0) (getD vs j 0) inner more (x .1)) (λ x. omega (arith, x .2)) y)
     (slabs-refused t (getD ls j 0) (getD vs j 0) s k says)

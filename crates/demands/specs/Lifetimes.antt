@@ -15,7 +15,7 @@ use Rattle.slabs.specs.Heights.{SlabsSays}
 use Rattle.lifetimes.specs.declared.LifetimesAnswer.the-variants.{Greatest, Refused}
 use Rattle.lifetimes.specs.Needed.{CellOf, Reports, Room, LifetimesSays}
 
--- What stands in the report: the first and the last slab of leaf i, and how many leaves are needed at a slab.
+-- What stands in the report: the first and the last slab of leaf i.
 abbrev pub firstOf : Reports → ℕ → ℕ
 firstOf left i = getD (left .first) i 0
 

@@ -162,7 +162,7 @@ dual-inside ns ds L v keys distances places (Refused k) (no-keys, _, no-places, 
 
 -- ---- the dual cell
 
-sum-ext : (f g : ℕ → ℕ) (n : ℕ) → ((i : ℕ) → i < n → f i ≡ g i) → sum f n ≡ sum g n
+pub sum-ext : (f g : ℕ → ℕ) (n : ℕ) → ((i : ℕ) → i < n → f i ≡ g i) → sum f n ≡ sum g n
 unfolding sum
 sum-ext f g zero h = refl
 sum-ext f g (suc n) h = omega (arith, sum-ext f g n (λ i l. h i (omega arith)), h n (omega arith))

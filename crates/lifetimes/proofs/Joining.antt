@@ -41,6 +41,30 @@ module _ (s : ℕ) (keys : List ℕ) where
   any-reach : length keys ≡ 8 → (first : ℕ) × (last : ℕ) × Reaches keys s first last
   any-reach e = let (first, last, b) = any-both 7 in (first, last, both-all s keys 8 first last (sym e) b)
 
+-- an entry of a cell that the walk finds: a listed cell has it, and has slabs
+pub cell-of : (t : Tree) → Sound t → (s : ℕ) → s ≤ limit → (j : ℕ) → j < length (vertices t) → (c : CellAt t j) (k : ℕ) → In k (c .keys)
+    → (first : ℕ) × (last : ℕ) × Reaches (c .keys) s first last × CellOf t s k first last
+cell-of t S s small j h c k m =
+    let (first, last, r) = any-reach s (c .keys) (c .dual .eight-keys) in (
+      first,
+      last,
+      r,
+      record {
+        vertex = getD (vertices t) j 0;
+        level = getD (levels t) j 0;
+        listed = record {
+          vertices = vertices t;
+          levels = levels t;
+          list = spots-listed t S;
+          place = j;
+          its-vertex = record { inside = h; here = refl };
+          its-level = record { inside = omega (arith, spots-listed t S .paired); here = refl };
+        };
+        has = record { keys = c .keys; distances = c .distances; places = _; tried = c .tried; cell = c .dual; entry = m };
+        slabs = (record { tried = tried.Keys (c .tried); keys = c .keys; distances = c .distances; places = _ }, (S, c .inner, c .more, c .dual), (small, r));
+      },
+    )
+
 -- a cell whose slabs are told is a dual cell that reaches them
 reaching : (t : Tree) (L v s first last : ℕ) {keys : List ℕ} {distances : List Float} {those : List ℕ} (a : Tried) → DualSays t L v keys distances those a → OfCell a keys s (Reach first last)
     → ((n : ℕ) × DualCell t L v keys distances those n) × Reaches keys s first last
@@ -107,34 +131,15 @@ module _ (t : Tree) (S : Sound t) (short : (i : ℕ) → i < length (t .firsts) 
           let j : ℕ = b .e / 8 in
           let h : j < length (vertices t) = omega (arith, b .e-inside, eight-each t) in
           let c : CellAt t j = cell-at t S j h in
-          let (first, last, r) = any-reach s (c .keys) (c .dual .eight-keys) in
-          let mine = entry-at j c (b .e) refl in
+          let mine : In leaf (c .keys) =
+          subst (λ (k : ℕ). In k (c .keys)) (sym (leaf-key t S short (getD (places t) (b .e) 0) i (b .here) .here)) (entry-at j c (b .e) refl) in
           let other = entry-at j c (b .f) (sym (b .one-cell)) in
+          let (first, last, r, cell) = cell-of t S s small j h c leaf mine in
           let each = reach-each r (getD (t .keys) (getD (places t) (b .f) 0) 0) other in
           record {
             first = first;
             last = last;
-            cell = record {
-              vertex = getD (vertices t) j 0;
-              level = getD (levels t) j 0;
-              listed = record {
-                vertices = vertices t;
-                levels = levels t;
-                list = spots-listed t S;
-                place = j;
-                its-vertex = record { inside = h; here = refl };
-                its-level = record { inside = omega (arith, spots-listed t S .paired); here = refl };
-              };
-              has = record {
-                keys = c .keys;
-                distances = c .distances;
-                places = _;
-                tried = c .tried;
-                cell = c .dual;
-                entry = subst (λ (k : ℕ). In k (c .keys)) (sym (leaf-key t S short (getD (places t) (b .e) 0) i (b .here) .here)) mine;
-              };
-              slabs = (record { tried = tried.Keys (c .tried); keys = c .keys; distances = c .distances; places = _ }, (S, c .inner, c .more, c .dual), (small, r));
-            };
+            cell = cell;
             from = omega (arith, each .0, b .slab-is);
             to = omega (arith, each .1, b .slab-is);
           }

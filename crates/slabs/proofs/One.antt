@@ -1,9 +1,9 @@
 -- One answer only: of each public call, two answers that meet its promise are the same. Assumes nothing.
-use Prim.Native.Nat.{ℕ, _^_, _<_}
+use Prim.Native.Nat.{ℕ, _^_, _<_, min, max}
 use mathlib.Core.Path.{_≡_, sym, ap, ap₂, _∙_}
 use mathlib.Core.List.{List, []}
 use native.Mathlib.Omega.{arith}
-use Rattle.morton.proofs.One.{OnlyOne, handed-on}
+use Rattle.morton.proofs.One.{OnlyOne, equal, handed-on}
 use Rattle.tree.specs.Tree.{Tree, Sound}
 use Rattle.tree.specs.Down.{Nodes}
 use Rattle.tree.proofs.Finding.{nodes}
@@ -14,9 +14,18 @@ use Rattle.dual.specs.Dual.{DualSays, TrustingSays as CellTrustingSays}
 use Rattle.dual.proofs.One.{dual-cell-one, dual-cell-trusting-one}
 use Rattle.slabs.specs.declared.SlabsAnswer.{SlabsAnswer}
 use Rattle.slabs.specs.declared.SlabsAnswer.the-variants.{Reach, Refused}
-use Rattle.slabs.specs.Heights.{Reaches, OfCell, SlabsSays, TrustingSays}
+use Rattle.slabs.specs.Heights.{slabAt, Reaches, OfCell, SlabsSays, TrustingSays}
 use Rattle.slabs.proofs.Order.{slab-order}
 use Rattle.slabs.proofs.Answering.{trusting-slabs}
+
+pub slab-at-one : (s k : ℕ) → OnlyOne (λ (r : ℕ). r ≡ slabAt s k)
+slab-at-one s k = equal (slabAt s k)
+
+pub lesser-one : (a b : ℕ) → OnlyOne (λ (r : ℕ). r ≡ min a b)
+lesser-one a b = equal (min a b)
+
+pub greater-one : (a b : ℕ) → OnlyOne (λ (r : ℕ). r ≡ max a b)
+greater-one a b = equal (max a b)
 
 -- two nodes may both be lowest, of one height: then their slabs are one
 module _ {keys : List ℕ} {s f₁ f₂ l₁ l₂ : ℕ} (a : Reaches keys s f₁ l₁) (b : Reaches keys s f₂ l₂) where

@@ -1,6 +1,6 @@
 -- One answer only: of each public call, what it returns and every place of every table that it is lent are settled by its promise. A library's call has its own name here, an
 -- exported one that of the header.
-use Prim.Native.Nat.{ℕ}
+use Prim.Native.Nat.{ℕ, min, max}
 use mathlib.Core.Path.{_≡_}
 use mathlib.Core.Bool.{Bool, _&&_}
 use mathlib.Core.List.{List}
@@ -35,8 +35,12 @@ use Rattle.vertices.proofs.One as vertices
 use Rattle.dual.specs.declared.Dual.{Dual}
 use Rattle.dual.specs.Dual.{DualSays, TrustingSays as DualTrustingSays}
 use Rattle.dual.proofs.One as dual
-use Rattle.slabs.specs.Heights.{SlabsSays, TrustingSays as SlabsTrustingSays}
+use Rattle.slabs.specs.Heights.{slabAt, SlabsSays, TrustingSays as SlabsTrustingSays}
 use Rattle.slabs.proofs.One as slabs
+use Rattle.lifetimes.specs.declared.LifetimesAnswer.{LifetimesAnswer}
+use Rattle.lifetimes.specs.Needed.{Reports, LifetimesSays}
+use Rattle.lifetimes.specs.Trusted.{TrustingSays as LifetimesTrustingSays}
+use Rattle.lifetimes.proofs.One as lifetimes
 use Rattle.counting.specs.declared.Text.{Text}
 use Rattle.counting.specs.Printed.{lineOf, Holds}
 use Rattle.counting.proofs.One as counting
@@ -50,6 +54,8 @@ use Rattle.mittenhelm_trusting.specs.Trusting.{HandsTrustedList, HandsTrustedDu
 use Rattle.mittenhelm_trusting.proofs.One as trusting
 use Rattle.mittenhelm_slabs.specs.Spans.{Span, HandsSlabs, HandsTrustedSlabs}
 use Rattle.mittenhelm_slabs.proofs.One as spans
+use Rattle.mittenhelm_lifetimes.specs.Most.{HandsMost, HandsLifetimes, HandsTrustedLifetimes}
+use Rattle.mittenhelm_lifetimes.proofs.One as most
 
 -- Two answers that meet a promise are the same.
 abbrev pub OnlyOne : {A : Type 0} → (A → Type 0) → Type 0
@@ -156,6 +162,21 @@ slabs-one = slabs.slabs-one
 pub slabs-trusting-one : (ks : Nodes) (L v s : ℕ) → OnlyOne (SlabsTrustingSays ks L v s)
 slabs-trusting-one = slabs.slabs-trusting-one
 
+pub slab-at-one : (s k : ℕ) → OnlyOne (λ (r : ℕ). r ≡ slabAt s k)
+slab-at-one = slabs.slab-at-one
+
+pub lesser-one : (a b : ℕ) → OnlyOne (λ (r : ℕ). r ≡ min a b)
+lesser-one = slabs.lesser-one
+
+pub greater-one : (a b : ℕ) → OnlyOne (λ (r : ℕ). r ≡ max a b)
+greater-one = slabs.greater-one
+
+pub lifetimes-one : (t : Tree) (s : ℕ) (was : Reports) → OnlyOne (λ (o : Reports × LifetimesAnswer). LifetimesSays t s was (o .0) (o .1))
+lifetimes-one = lifetimes.lifetimes-one
+
+pub lifetimes-trusting-one : (ks : Nodes) (s : ℕ) (was : Reports) → OnlyOne (λ (o : Reports × LifetimesAnswer). LifetimesTrustingSays ks s was (o .0) (o .1))
+lifetimes-trusting-one = lifetimes.lifetimes-trusting-one
+
 -- ---- the line that `counts` prints
 
 pub line-one : (input : List ℕ) → OnlyOne (λ (t : Text). Holds (lineOf input) (t .bytes) (t .length))
@@ -220,6 +241,10 @@ mittenhelm-dual-cell-one = reading.dual-cell-one
 pub mittenhelm-slabs-one : (t : Tree) (L v s : ℕ) (was : Span) → OnlyOne (λ (r : ℕ × Span). HandsSlabs t L v s was (r .0) (r .1))
 mittenhelm-slabs-one = spans.slabs-one
 
+pub mittenhelm-lifetimes-one : (t : Tree) (s was : ℕ) (before : Reports)
+    → OnlyOne (λ (r : Reports × (ℕ × ℕ)). HandsLifetimes t s before (r .0) was (r .1 .0) (r .1 .1))
+mittenhelm-lifetimes-one = most.lifetimes-one
+
 pub mittenhelm-look-up-trusting-one : (ks : Nodes) (ds : List Float) (k : ℕ) (was : Found) → OnlyOne (λ (r : ℕ × Found). HandsFound (trustingOf ks ds k) was (r .0) (r .1))
 mittenhelm-look-up-trusting-one = trusting.look-up-trusting-one
 
@@ -235,6 +260,10 @@ mittenhelm-dual-cell-trusting-one = trusting.dual-cell-trusting-one
 pub mittenhelm-slabs-trusting-one : (ks : Nodes) (L v s : ℕ) (was : Span) → OnlyOne (λ (r : ℕ × Span). HandsTrustedSlabs ks L v s was (r .0) (r .1))
 mittenhelm-slabs-trusting-one = spans.slabs-trusting-one
 
+pub mittenhelm-lifetimes-trusting-one : (ks : Nodes) (s was : ℕ) (before : Reports)
+    → OnlyOne (λ (r : Reports × (ℕ × ℕ)). HandsTrustedLifetimes ks s before (r .0) was (r .1 .0) (r .1 .1))
+mittenhelm-lifetimes-trusting-one = most.lifetimes-trusting-one
+
 -- ---- what hands an answer to a host
 
 pub hand-found-one : (a : Lookup) (was : Found) → OnlyOne (λ (r : ℕ × Found). HandsFound a was (r .0) (r .1))
@@ -245,3 +274,6 @@ hand-eight-one = reading.hand-eight-one
 
 pub hand-count-one : (a : ListAnswer) (was : ℕ) → OnlyOne (λ (r : ℕ × ℕ). HandsCount a was (r .0) (r .1))
 hand-count-one = reading.hand-count-one
+
+pub hand-most-one : (a : LifetimesAnswer) (was : ℕ) → OnlyOne (λ (r : ℕ × ℕ). HandsMost a was (r .0) (r .1))
+hand-most-one = most.hand-most-one

@@ -24,7 +24,7 @@ use Rattle.tree.proofs.Finding.{nodes}
 use Rattle.tree.proofs.Finding as finding
 use Rattle.tree.proofs.Down as down
 use Rattle.tree.proofs.One as tree
-use Rattle.geometry.specs.Grid.{liesIn, holders, volumes}
+use Rattle.geometry.specs.Grid.{sum, liesIn, holders, volumes}
 use Rattle.geometry.specs.Listing.{Listed}
 use Rattle.build.specs.declared.Request.{Request}
 use Rattle.build.specs.declared.State.{State}
@@ -49,16 +49,23 @@ use Rattle.slabs.specs.declared.SlabsAnswer.the-variants as slabs
 use Rattle.slabs.specs.Heights.{slabOf, SlabsSays, TrustingSays as SlabsTrustingSays}
 use Rattle.slabs.proofs.Spans as spans
 use Rattle.slabs.proofs.One as one-slabs
+use Rattle.lifetimes.specs.declared.LifetimesAnswer.{LifetimesAnswer}
+use Rattle.lifetimes.specs.declared.LifetimesAnswer.the-variants as lifetimes
+use Rattle.lifetimes.specs.Needed.{CellOf, Reports, Room as ReportRoom, LifetimesSays}
+use Rattle.lifetimes.specs.Trusted.{TrustingSays as LifetimesTrustingSays}
+use Rattle.lifetimes.proofs.One as one-lifetimes
 use Rattle.demands.specs.Run.{Run, nodeKeys, leafKeys, openCells, wholeOf, childrenOf}
 use Rattle.demands.specs.Demands.{AfterEveryDistance}
 use Rattle.demands.specs.Reading.{Once, LeafCorner, ListsCorners, LeafCell, part, Reading, treeAfter}
 use Rattle.demands.specs.Slabs.{HasVertex}
+use Rattle.demands.specs.Lifetimes.{LeafKept}
 use Rattle.demands.specs.Rooms.{RoomFor, nodesWith}
 use Rattle.demands.specs.Most.{MostVertices}
 use Rattle.demands.specs.Batches.{Batches, Done}
 use Rattle.demands.proofs.Demands as demands
 use Rattle.demands.proofs.Reading.{of-sound-trees, of-finished-builds}
 use Rattle.demands.proofs.Slabs.{slabs-of-trees}
+use Rattle.demands.proofs.Lifetimes.{lifetimes-of-trees, lifetimes-refused as refused}
 use Rattle.demands.proofs.Rooms as rooms
 use Rattle.demands.proofs.Most as most
 use Rattle.demands.proofs.Batches as batches
@@ -356,6 +363,50 @@ pub vertex-between : (t : Tree) (start n : ℕ) (was left : Lists) → ListSays 
     → HasVertex s (getD (left .vertices) (start + j) 0) r
 vertex-between t = slabs-of-trees t .vertex
 
+-- ---- from which slab to which slab each leaf is needed
+
+-- There is no report where the tree isn't sound, else where the exponent is above 15, else where a table has fewer places than leaves, or than slabs; and
+-- then the tables stay.
+pub lifetimes-refused : (t : Tree) (s : ℕ) (was left : Reports) (k : ℕ) → LifetimesSays t s was left (lifetimes.Refused k)
+    → (left ≡ was)
+    × (((Sound t → ⊥) × (k ≡ 11))
+    ⊎ ((Sound t × (15 < s) × (k ≡ 5))
+    ⊎ (Sound t × (s ≤ 15) × (ReportRoom (length (t .leaves)) s was → ⊥) × (k ≡ 17))))
+lifetimes-refused = refused
+
+module _ (t : Tree) (s : ℕ) (was left : Reports) (greatest : ℕ) (says : LifetimesSays t s was left (lifetimes.Greatest greatest)) where
+  -- Of a tree that isn't the root alone every leaf is needed at some slab.
+  pub every-leaf-needed : 1 < length (t .keys) → (i : ℕ) → i < length (t .leaves)
+      → (getD (left .first) i 0 ≤ getD (left .last) i 0) × (getD (left .last) i 0 < 2 ^ s)
+  every-leaf-needed = lifetimes-of-trees t s was left greatest says .every
+
+  -- Nothing is freed too early: every node that a listed cell reads at a slab from the cell's first to its last is a leaf that is needed there.
+  pub freed-in-time : (start n : ℕ) (before after : Lists) → ListSays t start before after (list.Count n) → (j : ℕ) → j < n
+      → (first last : ℕ) → SlabsSays t (getD (after .levels) (start + j) 0) (getD (after .vertices) (start + j) 0) s (slabs.Reach first last)
+      → (c : Dual) → DualSays t (getD (after .levels) (start + j) 0) (getD (after .vertices) (start + j) 0) (c .keys) (c .distances) (c .places) (c .tried)
+      → (slab : ℕ) → first ≤ slab → slab ≤ last → (o : ℕ) → o < 8 → LeafKept t left slab (getD (c .keys) o 0)
+  freed-in-time = lifetimes-of-trees t s was left greatest says .in-time
+
+  -- Nothing is kept longer than it must: a listed cell that has the leaf begins at its first slab, and one ends at its last.
+  pub kept-no-longer : 1 < length (t .keys) → (i : ℕ) → i < length (t .leaves)
+      → ((last : ℕ) × CellOf t s (getD (t .leaves) i 0) (getD (left .first) i 0) last) × ((first : ℕ) × CellOf t s (getD (t .leaves) i 0) first (getD (left .last) i 0))
+  kept-no-longer = lifetimes-of-trees t s was left greatest says .no-longer
+
+  -- The root alone is never needed.
+  pub root-never-needed : length (t .keys) ≡ 1 → (getD (left .first) 0 0 ≡ 1) × (getD (left .last) 0 0 ≡ 0) × (greatest ≡ 0)
+  root-never-needed = lifetimes-of-trees t s was left greatest says .root-alone
+
+  -- The counts of all slabs add up to the lengths of all leaves' spans.
+  pub counts-add-up : sum (λ slab. getD (left .needed) slab 0) (2 ^ s) ≡ sum (λ i. getD (left .last) i 0 + 1 - getD (left .first) i 0) (length (t .leaves))
+  counts-add-up = lifetimes-of-trees t s was left greatest says .adds-up
+
+  -- The greatest number is that of some slab, and none has a greater one.
+  pub greatest-reached : (slab : ℕ) × (slab < 2 ^ s) × (getD (left .needed) slab 0 ≡ greatest)
+  greatest-reached = lifetimes-of-trees t s was left greatest says .reached
+
+  pub none-greater : (slab : ℕ) → slab < 2 ^ s → getD (left .needed) slab 0 ≤ greatest
+  none-greater = lifetimes-of-trees t s was left greatest says .none-above
+
 -- ---- what is found
 
 -- The key at the place that a lookup answers is the key found, and the distance there the distance found.
@@ -394,6 +445,11 @@ trusting-is-dual-cell = dual.trusting-is-dual-cell
 pub trusting-is-slabs : (t : Tree) → Sound t → (L v s : ℕ) → v < 2 ^ 64 → (q r : SlabsAnswer)
     → SlabsSays t L v s q → SlabsTrustingSays (nodes t) L v s r → q ≡ r
 trusting-is-slabs = one-slabs.trusting-is-slabs
+
+-- A first child's place has 16 bits.
+pub trusting-is-lifetimes : (t : Tree) (s : ℕ) (was : Reports) → Sound t → ((i : ℕ) → i < length (t .firsts) → getD (t .firsts) i 0 < 2 ^ 16)
+    → (o p : Reports × LifetimesAnswer) → LifetimesSays t s was (o .0) (o .1) → LifetimesTrustingSays (nodes t) s was (p .0) (p .1) → o ≡ p
+trusting-is-lifetimes = one-lifetimes.trusting-is-lifetimes
 
 -- The places that are handed out with a vertex are those of its dual cell: on any tables `dual_cell_trusting` accepts it, and hands back the same eight.
 pub cells-right : (ks : Nodes) (from : ℕ) (was left : Cells) (n : ℕ) → CellsSays ks from was left n → (j : ℕ) → j < n → (ds : List Float)
