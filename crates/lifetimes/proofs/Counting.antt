@@ -16,7 +16,7 @@ use Rattle.tree.specs.Tree.{In}
 use Rattle.tree.specs.Down.{Nodes}
 use Rattle.tree.proofs.Lists.{order}
 use Rattle.lifetimes.specs.Needed.{GreatestOf, howMany, neededAt, countAt, Counts}
-use Rattle.lifetimes.specs.Steps.{Differs, startsAt, endsAt, most, Counted, SpansLeft, ReportLeft}
+use Rattle.lifetimes.specs.Steps.{Differs, startsAt, endsAt, SumsUp, mostIn, Counted, SpansLeft, ReportLeft}
 use Rattle.lifetimes.proofs.HowMany.{same, passed, failed, at-most, alike}
 
 -- ---- tests
@@ -262,27 +262,22 @@ module _ (firsts lasts : List ℕ) where
   lately-none (suc m) = omega (arith, lately-none m, was-early (getD firsts m 0) (getD lasts m 0) 0 (omega arith))
 
 -- What the summing loop has at a slab.
-pub record Summed (firsts lasts l₀ l : List ℕ) (here top slab : ℕ) : Type 0 where
-  pub in-range : slab ≤ length l₀
+pub record Summed (firsts lasts l₀ l : List ℕ) (here slab : ℕ) : Type 0 where
   pub as-long : length l ≡ length l₀
   pub here-is : here ≡ howMany (lately firsts lasts slab) (length firsts)
-  pub top-is : top ≡ most firsts lasts slab
   pub done : (i : ℕ) → i < slab → getD l i 0 ≡ countAt firsts lasts i
   pub left : (i : ℕ) → slab ≤ i → getD l i 0 ≡ getD l₀ i 0
 
-pub sum-start : (firsts lasts l : List ℕ) → Summed firsts lasts l l 0 0 0
-unfolding most
+pub sum-start : (firsts lasts l : List ℕ) → Summed firsts lasts l l 0 0
 sum-start firsts lasts l =
     record {
-      in-range = omega arith;
       as-long = refl;
       here-is = sym (lately-none firsts lasts (length firsts));
-      top-is = refl;
       done = λ i h. absurd (not-suc-le-zero h);
       left = λ i h. refl;
     }
 
-module _ (firsts lasts l₀ l : List ℕ) (here top slab : ℕ) (s : Summed firsts lasts l₀ l here top slab) where
+module _ (firsts lasts l₀ l : List ℕ) (here slab : ℕ) (s : Summed firsts lasts l₀ l here slab) where
   -- Modulo 2^32 the sum is the count, and there are fewer leaves than that.
   sum-is : (next : ℕ) → Differs firsts lasts (length firsts) l₀ l₀ → length firsts < 2 ^ 32 → slab < length l → next ≡ (here + getD l slab 0) % 2 ^ 32
       → next ≡ countAt firsts lasts slab
@@ -296,82 +291,79 @@ module _ (firsts lasts l₀ l : List ℕ) (here top slab : ℕ) (s : Summed firs
         at-most (neededAt firsts lasts slab) (length firsts),
       )
 
-  pub sum-more : (next top' : ℕ) → Differs firsts lasts (length firsts) l₀ l₀ → length firsts < 2 ^ 32 → slab < length l
-      → next ≡ (here + getD l slab 0) % 2 ^ 32 → top' ≡ max top next
-      → Summed firsts lasts l₀ (set l slab next) next top' (slab + 1)
-  unfolding most
-  sum-more next top' d few g e f =
+  pub sum-more : (next : ℕ) → Differs firsts lasts (length firsts) l₀ l₀ → length firsts < 2 ^ 32 → slab < length l
+      → next ≡ (here + getD l slab 0) % 2 ^ 32
+      → Summed firsts lasts l₀ (set l slab next) next (slab + 1)
+  sum-more next d few g e =
       let q : next ≡ countAt firsts lasts slab = sum-is next d few g e in
       record {
-        in-range = omega (arith, s .as-long);
         as-long = length-set l slab next ∙ s .as-long;
         here-is = q ∙ sym (lately-next firsts lasts slab (length firsts));
-        top-is = rw add-one (f ∙ ap₂ max (s .top-is) q);
         done = λ i h.
             ⊎-elim (λ r. rw r (getD-set-same l slab next 0 g ∙ q)) (λ ne. getD-set-other l slab i next 0 ne ∙ s .done i (omega arith)) (same i slab);
         left = λ i h. getD-set-other l slab i next 0 (omega arith) ∙ s .left i (omega arith);
       }
 
-  pub sum-all : length l ≤ slab → Counted firsts lasts l₀ l top
-  sum-all g = at-end slab (omega (arith, s .in-range, s .as-long)) s
-    where
-      at-end : (n : ℕ) → n ≡ length l₀ → Summed firsts lasts l₀ l here top n → Counted firsts lasts l₀ l top
-      at-end n e t = record { as-long = t .as-long; each = rw e at (t .done); greatest = rw e at (t .top-is) }
+  pub sum-all : length l ≤ slab → SumsUp firsts lasts l₀ l
+  sum-all g = record { as-long = s .as-long; each = λ i h. s .done i (omega (arith, s .as-long)) }
 
--- ---- the three steps together
+-- ---- the greatest
+
+module _ (xs : List ℕ) where
+  -- before any number, and after one more
+  pub most-start : 0 ≡ mostIn xs 0
+  unfolding mostIn
+  most-start = refl
+
+  pub most-more : (n top top' : ℕ) → top ≡ mostIn xs n → top' ≡ max top (getD xs n 0) → top' ≡ mostIn xs (n + 1)
+  unfolding mostIn
+  most-more n top top' e f = rw add-one (f ∙ ap (λ (t : ℕ). max t (getD xs n 0)) e)
+
+  -- the greatest is no less than any, and is one of them
+  most-over : (n i : ℕ) → i < n → getD xs i 0 ≤ mostIn xs n
+  unfolding mostIn
+  most-over zero i h = absurd (not-suc-le-zero h)
+  most-over (suc n) i h =
+      ⊎-elim (λ g. omega (arith, most-over n i g)) (λ g. omega (arith, ap (λ (j : ℕ). getD xs j 0) (le-antisymm (omega arith) g))) (order i n)
+
+  most-one : (n : ℕ) → 0 < n → (i : ℕ) × (i < n) × (getD xs i 0 ≡ mostIn xs n)
+  unfolding mostIn
+  most-one zero h = absurd (not-suc-le-zero h)
+  most-one (suc zero) h = (0, omega arith, omega arith)
+  most-one (suc (suc n)) h =
+      ⊎-elim (λ g. later g (most-one (suc n) (omega arith))) (λ g. (suc n, omega arith, omega arith)) (order (getD xs (suc n) 0) (mostIn xs (suc n)))
+    where
+      later : getD xs (suc n) 0 < mostIn xs (suc n) → (i : ℕ) × (i < suc n) × (getD xs i 0 ≡ mostIn xs (suc n))
+          → (i : ℕ) × (i < suc (suc n)) × (getD xs i 0 ≡ max (mostIn xs (suc n)) (getD xs (suc n) 0))
+      later g w = (w .0, omega (arith, w .1), omega (arith, w .2))
+
+  most-greatest : 0 < length xs → GreatestOf (λ x. In x xs) (mostIn xs (length xs))
+  most-greatest h = record { one-of = there (most-one (length xs) h); greatest = λ y m. omega (arith, m .here, most-over (length xs) (m .place) (m .inside)) }
+    where
+      there : (i : ℕ) × (i < length xs) × (getD xs i 0 ≡ mostIn xs (length xs)) → In (mostIn xs (length xs)) xs
+      there w = record { place = w .0; inside = w .1; here = w .2 }
+
+-- ---- the four steps together
 
 -- What the differences are, said of the table that holds them.
 pub settled : {firsts lasts l₀ l : List ℕ} {m : ℕ} → Differs firsts lasts m l₀ l → Differs firsts lasts m l l
 settled d = record { as-long = refl; each = λ slab g. d .each slab (omega (arith, d .as-long)) }
 
 -- Only the length of what stood there before matters.
-pub counted-from : {firsts lasts l₀ l₁ l₂ : List ℕ} {r : ℕ} → length l₁ ≡ length l₀ → Counted firsts lasts l₁ l₂ r → Counted firsts lasts l₀ l₂ r
-counted-from {firsts} {lasts} e c =
-    record {
-      as-long = c .as-long ∙ e;
-      each = λ slab g. c .each slab (omega (arith, e));
-      greatest = c .greatest ∙ ap (most firsts lasts) e;
-    }
-
--- ---- what the count means
-
-module _ (firsts lasts : List ℕ) where
-  -- the greatest is no less than any, and is one of them
-  most-over : (n slab : ℕ) → slab < n → countAt firsts lasts slab ≤ most firsts lasts n
-  unfolding most
-  most-over zero slab h = absurd (not-suc-le-zero h)
-  most-over (suc n) slab h =
-      ⊎-elim (λ g. omega (arith, most-over n slab g)) (λ g. omega (arith, ap (countAt firsts lasts) (le-antisymm (omega arith) g))) (order slab n)
-
-  most-one : (n : ℕ) → 0 < n → (slab : ℕ) × (slab < n) × (countAt firsts lasts slab ≡ most firsts lasts n)
-  unfolding most
-  most-one zero h = absurd (not-suc-le-zero h)
-  most-one (suc zero) h = (0, omega arith, omega arith)
-  most-one (suc (suc n)) h =
-      ⊎-elim (λ g. later g (most-one (suc n) (omega arith))) (λ g. (suc n, omega arith, omega arith)) (order (countAt firsts lasts (suc n)) (most firsts lasts (suc n)))
-    where
-      later : countAt firsts lasts (suc n) < most firsts lasts (suc n) → (slab : ℕ) × (slab < suc n) × (countAt firsts lasts slab ≡ most firsts lasts (suc n))
-          → (slab : ℕ) × (slab < suc (suc n)) × (countAt firsts lasts slab ≡ max (most firsts lasts (suc n)) (countAt firsts lasts (suc n)))
-      later g w = (w .0, omega (arith, w .1), omega (arith, w .2))
+pub counted-from : {firsts lasts l₀ l₁ l₂ : List ℕ} {r : ℕ} → length l₁ ≡ length l₀ → SumsUp firsts lasts l₁ l₂ → r ≡ mostIn l₂ (length l₂)
+    → Counted firsts lasts l₀ l₂ r
+counted-from e c g = record { sums = record { as-long = c .as-long ∙ e; each = λ slab h. c .each slab (omega (arith, e)) }; greatest = g }
 
 -- The greatest is one of the counts, as there is a slab.
 pub counted-counts : {firsts lasts counts counts' : List ℕ} {r s : ℕ} → length counts ≡ 2 ^ s → Counted firsts lasts counts counts' r
     → Counts s firsts lasts counts' r
-counted-counts {firsts} {lasts} {counts} {counts'} {r} {s} e c =
+counted-counts {counts' = counts'} {s = s} e c =
+    let n : length counts' ≡ 2 ^ s = c .sums .as-long ∙ e in
     record {
-      as-many = c .as-long ∙ e;
-      each = λ slab g. c .each slab (omega (arith, e));
-      greatest = record { one-of = there (most-one firsts lasts (length counts) (omega (arith, e, pow-pos s))); greatest = over };
+      as-many = n;
+      each = λ slab g. c .sums .each slab (omega (arith, e));
+      greatest = subst (GreatestOf (λ x. In x counts')) (sym (c .greatest)) (most-greatest counts' (omega (arith, n, pow-pos s)));
     }
-  where
-    there : (slab : ℕ) × (slab < length counts) × (countAt firsts lasts slab ≡ most firsts lasts (length counts)) → In r counts'
-    there w =
-        record { place = w .0; inside = omega (arith, w .1, c .as-long); here = c .each (w .0) (w .1) ∙ w .2 ∙ sym (c .greatest) }
-
-    over : (y : ℕ) → In y counts' → y ≤ r
-    over y m =
-        let inside : m .place < length counts = omega (arith, m .inside, c .as-long) in
-        omega (arith, m .here, c .each (m .place) inside, most-over firsts lasts (length counts) (m .place) inside, c .greatest)
 
 -- ---- one answer only
 

@@ -173,15 +173,19 @@ pub record Differs (firsts lasts : List ℕ) (m : ℕ) (counts counts' : List �
   pub each : (slab : ℕ) → slab < length counts
       → (getD counts' slab 0 + howMany (endsAt firsts lasts slab) m) % 2 ^ 32 ≡ howMany (startsAt firsts lasts slab) m % 2 ^ 32
 
--- The greatest count of the slabs below n.
-unfoldable pub most : List ℕ → List ℕ → ℕ → ℕ
-most firsts lasts zero = 0
-most firsts lasts (suc n) = max (most firsts lasts n) (countAt firsts lasts n)
-
-pub record Counted (firsts lasts counts counts' : List ℕ) (r : ℕ) : Type 0 where
+-- Each slab holds how many leaves are needed at it.
+pub record SumsUp (firsts lasts counts counts' : List ℕ) : Type 0 where
   pub as-long : length counts' ≡ length counts
   pub each : (slab : ℕ) → slab < length counts → getD counts' slab 0 ≡ countAt firsts lasts slab
-  pub greatest : r ≡ most firsts lasts (length counts)
+
+-- The greatest of the first n numbers.
+unfoldable pub mostIn : List ℕ → ℕ → ℕ
+mostIn xs zero = 0
+mostIn xs (suc n) = max (mostIn xs n) (getD xs n 0)
+
+pub record Counted (firsts lasts counts counts' : List ℕ) (r : ℕ) : Type 0 where
+  pub sums : SumsUp firsts lasts counts counts'
+  pub greatest : r ≡ mostIn counts' (length counts')
 
 -- ---- all of it
 

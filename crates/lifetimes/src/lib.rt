@@ -9,7 +9,7 @@ ghost use Rattle.vertices.specs.Walk.{spotsOf};
 ghost use Rattle.vertices.specs.Cells.{placesOf};
 ghost use Rattle.lifetimes.specs.Needed.{Room, reportsOf, LifetimesSays};
 ghost use Rattle.lifetimes.specs.Trusted.{nodesIn, leavesOf, TrustingSays};
-ghost use Rattle.lifetimes.specs.Steps.{PutLeaf, Numbered, Ready, Finds, MeetingSays, PullSays, Widened, Widens, NextFrom, Prepared, AllUnpacked, Within, SpansLeft, Differs, Counted, ReportLeft};
+ghost use Rattle.lifetimes.specs.Steps.{PutLeaf, Numbered, Ready, Finds, MeetingSays, PullSays, Widened, Widens, NextFrom, Prepared, AllUnpacked, Within, SpansLeft, Differs, SumsUp, mostIn, Counted, ReportLeft};
 
 // The greatest number of leaves that are needed at one slab, or the number of the refusal.
 pub enum LifetimesAnswer {
@@ -277,19 +277,29 @@ fn differ(first: &[u32], last: &[u32], needed: &mut [u32])
     }
 }
 
-// The sums from slab 0 on, and the greatest of them.
-fn sum_up(first: &[u32], last: &[u32], needed: &mut [u32]) -> u32
+// The sums from slab 0 on.
+fn sum_up(first: &[u32], last: &[u32], needed: &mut [u32])
     requires { ⌜ length (now first) < 2 ^ 32 ⌝ }
     requires { ⌜ Differs (now first) (now last) (length (now first)) (now needed) (now needed) ⌝ }
-    ensures { λ r. ⌜ Counted (now (first .entry)) (now (last .entry)) (now (needed .entry)) (now (needed .exit)) r ⌝ }
+    ensures { λ _. ⌜ SumsUp (now (first .entry)) (now (last .entry)) (now (needed .entry)) (now (needed .exit)) ⌝ }
 {
     let mut here: u32 = 0;
-    let mut top: u32 = 0;
     let mut slab: usize = 0;
     while slab < needed.len() {
         here = std::num::wrapping_add_u32(here, needed[slab]);
         needed[slab] = here;
-        top = slabs::greater(top, here);
+        slab += 1;
+    }
+}
+
+// The greatest number in a table: in a loop of its own, since the compiler then takes several numbers at once.
+fn greatest_in(table: &[u32]) -> u32
+    ensures { λ r. ⌜ r ≡ mostIn (now (table .entry)) (length (now (table .entry))) ⌝ }
+{
+    let mut top: u32 = 0;
+    let mut slab: usize = 0;
+    while slab < table.len() {
+        top = slabs::greater(top, table[slab]);
         slab += 1;
     }
     top
@@ -302,7 +312,8 @@ fn count(first: &[u32], last: &[u32], needed: &mut [u32]) -> u32
 {
     fill(needed, 0);
     differ(first, last, needed);
-    sum_up(first, last, needed)
+    sum_up(first, last, needed);
+    greatest_in(needed)
 }
 
 // ---- the call

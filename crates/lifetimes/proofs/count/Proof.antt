@@ -1,4 +1,4 @@
--- `count` meets its contract: the three steps one after the other. Assumes nothing.
+-- `count` meets its contract: the four steps one after the other. Assumes nothing.
 use mathlib.Core.Path.{sym, subst, _∙_}
 use borrow.Author.Needs.{needs}
 use Rattle.lifetimes.specs.Steps.{Within}
@@ -18,15 +18,19 @@ differ-requires c κs =
 sum-up-requires : tie.Need-sum-up-requires
 sum-up-requires c κs = (c .before .before .before .before .before .before .before .before .before .before .before .before .pre .1, settled (c .before .before .before .differ .ensures))
 
+greatest-in-requires : tie.Need-greatest-in-requires
+greatest-in-requires c κs = search needs
+
 same-length : tie.Need-same-length
 same-length c = search needs
 
 returns : tie.Need-returns
 returns c =
-    let d = c .before .before .before .before .before .before in
+    let u = c .before .before .before .before in
+    let d = u .before .before .before .before in
     let f = d .before .before .before .before in
     let s = f .before .before .before .before .before in
-    counted-from (d .differ .ensures .as-long ∙ filled-long (s .args .needed .now) _ 0 (f .fill .ensures)) (c .before .before .sum-up .ensures)
+    counted-from (d .differ .ensures .as-long ∙ filled-long (s .args .needed .now) _ 0 (f .fill .ensures)) (u .sum-up .ensures) (c .greatest-in .ensures)
 
 pub count-spec : {M : Type 1} → statement M
-count-spec = tie.close (tie.spec fill-requires differ-requires sum-up-requires same-length returns)
+count-spec = tie.close (tie.spec fill-requires differ-requires sum-up-requires greatest-in-requires same-length returns)

@@ -21,7 +21,7 @@ same-length-2 : tie.Need-same-length-2
 same-length-2 c = c .before .before .before .before .before .before .before .before .before .before .spans .ensures .spans .as-many-lasts ∙ ap leavesOf (sym (c .before .before .before .before .before .before .before .before .before .before .before .before .before .before .before .before .before .before .pre .0 .0)) ∙ sym (c .before .before .before .before .before .before .before .before .before .before .before .before .before .before .before .before .before .before .pre .1 .1)
 
 same-length-3 : tie.Need-same-length-3
-same-length-3 c = c .before .before .count .ensures .as-long
+same-length-3 c = c .before .before .count .ensures .sums .as-long
 
 returns : tie.Need-returns
 returns c = report-left _ _ _ _ (now (c .before .before .before .before .before .before .before .before .before .before .before .before .before .before .before .before .before .before .args .needed)) _ _ (c .before .before .before .before .before .before .before .before .before .before .before .before .before .before .before .before .before .before .pre .1 .2) (c .before .before .before .before .before .before .before .before .before .before .spans .ensures) (c .before .before .count .ensures)

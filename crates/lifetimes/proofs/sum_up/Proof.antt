@@ -8,10 +8,10 @@ use Rattle.lifetimes.proofs.sum_up.Statement.{statement}
 use Rattle.lifetimes.proofs.sum_up.Tie as tie
 
 abbrev Inv-loop : tie.InvT-loop
-Inv-loop first last needed₀ here₀ top₀ slab₀ needed here top slab = Summed first last needed₀ needed here top slab
+Inv-loop first last needed₀ here₀ slab₀ needed here slab = Summed first last needed₀ needed here slab
 
 abbrev μ-loop : tie.MeasureT-loop
-μ-loop first last needed₀ here₀ top₀ slab₀ needed here top slab = length needed₀ - slab
+μ-loop first last needed₀ here₀ slab₀ needed here slab = length needed₀ - slab
 
 loop-holds : tie.Need-loop-holds Inv-loop μ-loop
 loop-holds c =
@@ -33,22 +33,18 @@ mul-needed c = search needs
 slice-write-needed : tie.Need-slice-write-needed Inv-loop μ-loop
 slice-write-needed c = search needs
 
-greater-requires : tie.Need-greater-requires Inv-loop μ-loop
-greater-requires c κs = search needs
-
 add-slab : tie.Need-add-slab Inv-loop μ-loop
 add-slab c = search needs
 
 loop-less : tie.Need-loop-less Inv-loop μ-loop
-loop-less c = omega (arith, c .before .before .before .before .loop .inv .as-long)
+loop-less c = omega (arith, c .before .before .before .loop .inv .as-long)
 
 loop-again : tie.Need-loop-again Inv-loop μ-loop
 loop-again c =
-    let t = c .before in
-    let k = t .before .before .before in
+    let k = c .before .before .before in
     let s = k .before .before .before .before in
-    sum-more (s .args .first .now) (s .args .last .now) (s .args .needed .now) (k .loop .needed) (k .loop .here) (k .loop .top) (k .loop .slab) (k .loop .inv) (t .wrapping-add-u32 .result) (c .greater .result) (s .pre .1) (s .pre .0)
-    (t .before .before .loop-test .taken) (t .wrapping-add-u32 .ensures) (c .greater .ensures)
+    sum-more (s .args .first .now) (s .args .last .now) (s .args .needed .now) (k .loop .needed) (k .loop .here) (k .loop .slab) (k .loop .inv) (c .wrapping-add-u32 .result) (s .pre .1) (s .pre .0)
+    (c .before .before .loop-test .taken) (c .wrapping-add-u32 .ensures)
 
 same-length : tie.Need-same-length Inv-loop μ-loop
 same-length c = c .before .loop .inv .as-long
@@ -57,7 +53,7 @@ returns : tie.Need-returns Inv-loop μ-loop
 returns c =
     let k = c .before in
     let s = k .before .before .before .before in
-    sum-all (s .args .first .now) (s .args .last .now) (s .args .needed .now) (k .loop .needed) (k .loop .here) (k .loop .top) (k .loop .slab) (k .loop .inv) (c .loop-test .left)
+    sum-all (s .args .first .now) (s .args .last .now) (s .args .needed .now) (k .loop .needed) (k .loop .here) (k .loop .slab) (k .loop .inv) (c .loop-test .left)
 
 pub sum-up-spec : {M : Type 1} → statement M
 sum-up-spec =
@@ -71,7 +67,6 @@ sum-up-spec =
     wrapping-add-u32-requires
     mul-needed
     slice-write-needed
-    greater-requires
     add-slab
     loop-less
     loop-again
