@@ -99,7 +99,7 @@ END {
     table("their levels", "as many of 1 byte", 1, listed[4096], listed[1024])
     table("a dual cell", "8 keys, 8 distances, 8 places, the number tried", 164, 1, 1)
     lent_again("first and last slabs of leaves", "2 x (7n + 1)/8 of 4 bytes, in the queue's memory", 8, leaves[4096], leaves[1024])
-    table("leaves needed by slab", "one of 4 bytes for each of, here, 1,024 slabs, and the greatest", 4, 1024 + 1, 1024 + 1)
+    table("leaves needed by slab", "4 bytes for each slab, here 1,024 of them, and the greatest", 4, 1024 + 1, 1024 + 1)
     for (room in all)
         reading[room] = tree[room] + all[room] - building[room] + again[room]
     if (part == "lent") {

@@ -108,7 +108,7 @@ impl Times {
 /// The exponents with which lifetimes are timed.
 pub const EXPONENTS: [u32; 3] = [0, 5, 10];
 
-/// Lifetimes shouldn't take longer than so many times all cells.
+/// Lifetimes shouldn't take longer than so many times all cells, in the mean of the trees.
 pub const MOST_CELLS: f64 = 3.0;
 
 /// What lifetimes take, which are ours alone, beside all cells with the places of their nodes: both trust the tree. In seconds.

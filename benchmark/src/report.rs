@@ -33,7 +33,8 @@ pub fn report(rows: &[Row]) -> String {
         growth(rows),
         "## Lifetimes".to_string(),
         format!(
-            "How many times as long as all cells with the places of their nodes a report takes, by slab exponent. The goal is at most {MOST_CELLS}."
+            "How many times as long as all cells with the places of their nodes a report takes, by slab exponent. The goal is at most \
+             {MOST_CELLS} in the geometric mean; single trees may be above it."
         ),
         lifetimes(rows),
     ];
