@@ -177,3 +177,12 @@ fn in_place_of_the_part() {
     }
     assert_eq!(fs::read(&part).expect("the part"), bytes);
 }
+
+/// The picture that README shows is the one that the command draws.
+#[test]
+fn as_the_readme_shows_it() {
+    let drawn = file("readme-lifetimes.svg");
+    printed(&["slice", "sphere", "--bound", "3", "--exponent", "5", "--lifetimes", drawn.to_str().expect("plain text")]);
+    let shown = concat!(env!("CARGO_MANIFEST_DIR"), "/../docs/lifetimes.svg");
+    assert!(fs::read(drawn).expect("a picture") == fs::read(shown).expect("README's picture"), "draw docs/lifetimes.svg anew");
+}
