@@ -276,7 +276,7 @@ fn replay() -> Tally {
     let mut leaves = [0u64; 1024];
     let mut queue = [0u64; 1024];
     let mut state = idle();
-    let agree = [0u64; 23];
+    let agree = [0u64; 24];
     let mut tally = Tally { agree, differ: 0 };
     let mut left: u32 = 100_000;
     while 0 < left {
@@ -327,14 +327,14 @@ fn print_count(n: u64) {
 }
 
 // A call's name and how many of its lines agreed.
-fn print(name: &[u8], agree: [u64; 23], op: usize) {
+fn print(name: &[u8], agree: [u64; 24], op: usize) {
     io::write_all(STDOUT_FILENO, name);
-    if op < 23 {
+    if op < 24 {
         print_count(agree[op]);
     }
 }
 
-fn show_keys(agree: [u64; 23]) {
+fn show_keys(agree: [u64; 24]) {
     print(b"level ", agree, 0);
     print(b"is_cell ", agree, 1);
     print(b"parent ", agree, 2);
@@ -349,7 +349,7 @@ fn show_keys(agree: [u64; 23]) {
     print(b"should_refine ", agree, 11);
 }
 
-fn show_builds(agree: [u64; 23]) {
+fn show_builds(agree: [u64; 24]) {
     print(b"start ", agree, 12);
     print(b"distance ", agree, 13);
     print(b"keys at a place ", agree, 14);

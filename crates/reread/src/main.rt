@@ -3,6 +3,7 @@
 use dual::Tried;
 use libc::STDIN_FILENO;
 use libc::STDOUT_FILENO;
+use lifetimes::LifetimesAnswer;
 use sample::END;
 use sample::Line;
 use sample::Tally;
@@ -99,6 +100,77 @@ fn slabs(l: Line, keys: &[u64], distances: &[f32], firsts: &[u16], leaves: &[u64
     }
 }
 
+fn number_at(table: &[u32], at: usize) -> u32 {
+    if at < table.len() { table[at] } else { 0 }
+}
+
+// What stands in the report tables at the leaf and at the slab that B says: the low half is the leaf. Y has the first slab above the last.
+fn same_reported(l: Line, first: &[u32], last: &[u32], needed: &[u32]) -> bool {
+    let leaf = l.low_b as usize;
+    let slab = (l.b >> 32) as usize;
+    if number_at(first, leaf) as u64 != l.y >> 32 {
+        return false;
+    }
+    if number_at(last, leaf) as u64 != l.y % 0x1_0000_0000 {
+        return false;
+    }
+    number_at(needed, slab) as u64 == l.z
+}
+
+fn same_greatest(answer: LifetimesAnswer, l: Line) -> bool {
+    match answer {
+        LifetimesAnswer::Greatest(n) => sample::first_is(l, n as u64),
+        LifetimesAnswer::Refused(number) => number == l.status,
+    }
+}
+
+// A report into tables that are lent as long as C says below the exponent. Also where it is refused, what they hold is compared.
+fn report(
+    l: Line,
+    keys: &[u64],
+    distances: &[f32],
+    firsts: &[u16],
+    leaves: &[u64],
+    first: &mut [u32],
+    last: &mut [u32],
+    needed: &mut [u32],
+) -> bool {
+    let a = sample::length_at(l.c, 0, first.len());
+    let b = sample::length_at(l.c, 1, last.len());
+    let c = sample::length_at(l.c, 2, needed.len());
+    let answer = lifetimes::lifetimes(
+        keys,
+        distances,
+        firsts,
+        leaves,
+        (l.c >> 48) as u32,
+        &mut first[..a],
+        &mut last[..b],
+        &mut needed[..c],
+    );
+    if !same_greatest(answer, l) {
+        return false;
+    }
+    same_reported(l, first, last, needed)
+}
+
+// The same with tables that are all 0.
+fn lifetimes(l: Line, keys: &[u64], distances: &[f32], firsts: &[u16], leaves: &[u64]) -> bool {
+    let mut first = [0u32; 1024];
+    let mut last = [0u32; 1024];
+    let mut needed = [0u32; 1024];
+    report(
+        l,
+        keys,
+        distances,
+        firsts,
+        leaves,
+        &mut first,
+        &mut last,
+        &mut needed,
+    )
+}
+
 // A list into tables that are all 0, as long as C says.
 fn list(
     l: Line,
@@ -156,6 +228,7 @@ fn read_lent(l: Line, keys: &[u64], distances: &[f32], firsts: &[u16], leaves: &
         18 => same_lookup(tree::look_up(keys, distances, firsts, leaves, l.b), l),
         21 => dual_cell(l, keys, distances, firsts, leaves),
         22 => slabs(l, keys, distances, firsts, leaves),
+        23 => lifetimes(l, keys, distances, firsts, leaves),
         _ => false,
     }
 }
@@ -210,7 +283,7 @@ fn replay() -> Tally {
     let mut leaves = [0u64; 1024];
     let mut vertices = [0u64; 1024];
     let mut levels = [0u8; 1024];
-    let agree = [0u64; 23];
+    let agree = [0u64; 24];
     let mut tally = Tally { agree, differ: 0 };
     let mut left: u32 = 100_000;
     while 0 < left {
@@ -256,9 +329,9 @@ fn print_count(n: u64) {
 }
 
 // A call's name and how many of its lines agreed.
-fn print(name: &[u8], agree: [u64; 23], op: usize) {
+fn print(name: &[u8], agree: [u64; 24], op: usize) {
     io::write_all(STDOUT_FILENO, name);
-    if op < 23 {
+    if op < 24 {
         print_count(agree[op]);
     }
 }
@@ -273,6 +346,7 @@ fn main() {
     print(b"vertex at a place ", agree, 20);
     print(b"dual_cell ", agree, 21);
     print(b"slabs ", agree, 22);
+    print(b"lifetimes ", agree, 23);
     io::write_all(STDOUT_FILENO, b"differ ");
     print_count(t.differ);
 }

@@ -18,14 +18,14 @@ one-more t n e = rw e refl
 pub not-same : (t r : Tally) (op : ℕ) (same : Bool) → r ≡ differingOf t → not same ≡ true → r ≡ countedOf t op same
 not-same t r op same e h = rw (not-true same h) e
 
-pub no-call : (t r : Tally) (op : ℕ) (same : Bool) → r ≡ differingOf t → not same ≡ false → 23 ≤ op → r ≡ countedOf t op same
-no-call t r op same e h l = rw (not-false same h, le-ltb op 23 l) e
+pub no-call : (t r : Tally) (op : ℕ) (same : Bool) → r ≡ differingOf t → not same ≡ false → 24 ≤ op → r ≡ countedOf t op same
+no-call t r op same e h l = rw (not-false same h, le-ltb op 24 l) e
 
 pub agreed : (t : Tally) (op n : ℕ) (same : Bool)
     → n ≡ (getD (t .agree) op 0 + 1) % 2 ^ 64
-    → not same ≡ false → op < 23
+    → not same ≡ false → op < 24
     → _≡_ {A = Tally} (record { agree = set (t .agree) op n; differ = t .differ }) (countedOf t op same)
-agreed t op n same e h l = rw (not-false same h, lt-ltb op 23 l, e) refl
+agreed t op n same e h l = rw (not-false same h, lt-ltb op 24 l, e) refl
 
 -- ---- read for themselves: a line that is counted as agreeing does agree
 

@@ -12,10 +12,10 @@ next n = (n + 1) % 2 ^ 64
 abbrev pub differingOf : Tally → Tally
 differingOf t = record { agree = t .agree; differ = next (t .differ) }
 
--- The counts with one line more, which is of one of 23 calls and agreed, or differs.
+-- The counts with one line more, which is of one of 24 calls and agreed, or differs.
 abbrev pub countedOf : Tally → ℕ → Bool → Tally
 countedOf t op same =
     cond
-    (same && ltb op 23)
+    (same && ltb op 24)
     (record { agree = set (t .agree) op (next (getD (t .agree) op 0)); differ = t .differ })
     (differingOf t)

@@ -25,7 +25,7 @@ pub struct Line {
 
 // How many lines of each call agreed, and how many of all differ.
 pub struct Tally {
-    pub agree: [u64; 23],
+    pub agree: [u64; 24],
     pub differ: u64,
 }
 
@@ -147,7 +147,7 @@ pub fn counted(t: Tally, op: usize, same: bool) -> Tally
     if !same {
         return differing(t);
     }
-    if op >= 23 {
+    if op >= 24 {
         return differing(t);
     }
     let mut agree = t.agree;

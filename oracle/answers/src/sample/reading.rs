@@ -10,19 +10,26 @@
 //! | 14 listed | place | | | vertex | level | |
 //! | 15 dual_cell | lengths | vertex | level, entry | key of the entry | its distance | keys tried for all eight, place |
 //! | 16 slabs | lengths | vertex | level, exponent | first | last | |
+//! | 17 lifetimes | lengths | leaf, slab | lengths, exponent | greatest | last, first | leaves needed |
 //!
 //! Put writes one place of keys, distances, first children and leaves; the place and that of the first child have 16 bits each, and the
 //! distance stands in A's high half, as the entry and the exponent do in C's and the place of what was found in Z's. Lengths are those
 //! of keys, distances, first children and leaves in 16 bits each from the lowest on. A list line sets every place of a vertex table and a
 //! level table of 1,024 to 0, and lends as many as C says, 16 bits each; a listed line tells what then stands at a place of both. A
 //! lookup that answers nothing has key, distance and place 0.
+//!
+//! A lifetimes line sets every place of three tables of 1,024 to 0, for first slabs, for last slabs and for numbers of leaves, and lends
+//! as many as C says, 16 bits each; the exponent has C's highest 16. Y tells what then stands at the leaf in the first two, and Z what
+//! stands at the slab in the third, lent or not, and so 0 where the call refuses. The slab is B's high half, the first slab is Y's.
 
 use super::lines::{packed, Sample};
 use crate::inputs::{first_cell, last_cell, BROKEN_DISTANCES, GREATEST_DISTANCES};
 use crate::integer;
+use crate::model::lifetimes::{Lifetimes, Needs};
 use crate::model::reading::{Lookup, Reading, Slabs, Tables};
-use crate::model::{level, vertex};
+use crate::model::{level, vertex, Answer};
 use crate::trees::of_splits;
+use std::collections::BTreeMap;
 
 const PUT: u8 = 0x10;
 const SOUND: u8 = 0x11;
@@ -31,8 +38,9 @@ const LIST: u8 = 0x13;
 const LISTED: u8 = 0x14;
 const DUAL_CELL: u8 = 0x15;
 const SLABS: u8 = 0x16;
+const LIFETIMES: u8 = 0x17;
 
-/// The places of the vertex table and of the level table, lent or not.
+/// The places of each table that a call writes, lent or not.
 const IN_ALL: usize = 1024;
 
 const MIDDLE: u64 = 15 << 60;
@@ -94,6 +102,24 @@ impl Put {
         }
         Put { lengths, tables }
     }
+}
+
+/// The first and the last slab of each leaf that a cell has, by the text: it lists the cells, finds their eight nodes, and says where the
+/// centres of these are.
+fn spans_by_text(tables: &Tables, exponent: u32) -> Vec<[u32; 2]> {
+    let listed = integer::compute_primal_vertices(&tables.keys, &tables.leaves);
+    let mut spans: BTreeMap<u64, [u32; 2]> = BTreeMap::new();
+    for nodes in integer::search_eight_nodes(&tables.keys, &tables.leaves, &listed) {
+        let keys = nodes.map(|place| tables.keys[place.expect("the text finds a node")]);
+        let slabs = keys.map(|key| (integer::center(key)[2] * 2f32.powi(exponent as i32)) as u32);
+        let (first, last) = slabs.iter().fold((u32::MAX, 0), |(first, last), &slab| (first.min(slab), last.max(slab)));
+        for key in keys {
+            let span = spans.entry(key).or_insert([first, last]);
+            *span = [span[0].min(first), span[1].max(last)];
+        }
+    }
+    // No cell has the root alone.
+    tables.leaves.iter().map(|leaf| spans.get(leaf).copied().unwrap_or([1, 0])).collect()
 }
 
 /// What a line says that was found: Z has the place above the number tried.
@@ -214,6 +240,53 @@ impl Sample {
         assert!(!self.slabs(put, vertex, level, 16) && !self.slabs(put, vertex, level, u32::MAX));
     }
 
+    /// A report into tables of these lengths, and what stands at some leaves and slabs after it. A line has a leaf and a slab.
+    fn lifetimes(&mut self, put: &Put, exponent: u32, lengths: [usize; 3], places: &[[usize; 2]]) -> Answer<()> {
+        assert!(lengths.iter().all(|&length| length <= IN_ALL) && places.iter().flatten().all(|&place| place < IN_ALL + 2));
+        let tables = put.lent();
+        let report = Needs::of_sound(&tables, &put.reading()).and_then(|needs| needs.lifetimes(exponent));
+        if let Ok(Lifetimes { first, last, .. }) = &report {
+            let spans: Vec<[u32; 2]> = first.iter().zip(last).map(|(&first, &last)| [first, last]).collect();
+            assert_eq!(spans, spans_by_text(&tables, exponent), "the text and the model differ");
+        }
+        let [mut first, mut last, mut needed] = lengths.map(|length| vec![0; length]);
+        let answer = report.and_then(|report| report.write(&mut first, &mut last, &mut needed));
+        let at = |table: &[u32], place: usize| table.get(place).copied().unwrap_or(0) as u64;
+        for &[leaf, slab] in places {
+            let c = packed([lengths[0], lengths[1], lengths[2], exponent as usize]);
+            let results = answer.map(|most| [most as u64, at(&first, leaf) << 32 | at(&last, leaf), at(&needed, slab)]);
+            self.line(LIFETIMES, [put.packed(), leaf as u64 | (slab as u64) << 32, c], results);
+        }
+        answer.map(|_| ())
+    }
+
+    /// Lifetimes of a sound tree into tables that are just long enough, and into longer ones: of some leaves and slabs, and past the last.
+    fn lifetimes_with_room(&mut self, put: &Put, exponent: u32) {
+        let (leaves, slabs) = (put.lengths[3], 1 << exponent);
+        let mut places = vec![[0, slabs - 1], [leaves - 1, 0], [leaves / 2, slabs / 2], [leaves / 3, slabs / 4], [leaves, slabs]];
+        places.dedup();
+        assert_eq!(self.lifetimes(put, exponent, [leaves, leaves, slabs], &places), Ok(()));
+        let places = [[leaves, slabs], [leaves - 1, slabs - 1]];
+        assert_eq!(self.lifetimes(put, exponent, [IN_ALL, leaves + 1, IN_ALL], &places), Ok(()));
+    }
+
+    /// Lifetimes that are refused: each table is a place too short; there is no room for finer slabs; or the exponent is above 15, which
+    /// comes before any want of room.
+    fn lifetimes_refused(&mut self, put: &Put, exponent: u32) {
+        let (leaves, slabs) = (put.lengths[3], 1 << exponent);
+        for less in [[1, 0, 0], [0, 1, 0], [0, 0, 1]] {
+            let lengths = [leaves - less[0], leaves - less[1], slabs - less[2]];
+            assert_eq!(self.lifetimes(put, exponent, lengths, &[[0, slabs - 1]]), Err(17));
+        }
+        for exponent in [11, 15] {
+            assert_eq!(self.lifetimes(put, exponent, [leaves, leaves, IN_ALL], &[[0, 0]]), Err(17));
+        }
+        for exponent in [16, u16::MAX as u32] {
+            assert_eq!(self.lifetimes(put, exponent, [IN_ALL; 3], &[[0, 0]]), Err(5));
+            assert_eq!(self.lifetimes(put, exponent, [0; 3], &[[0, 0]]), Err(5));
+        }
+    }
+
     pub(super) fn reading(&mut self) {
         self.least_trees();
         self.example_of_81();
@@ -242,6 +315,7 @@ impl Sample {
             self.list(&other, 9, [0, 0], [].into_iter());
             self.dual_cell(&other, MIDDLE, 0, [0].into_iter());
             self.slabs(&other, MIDDLE, 0, 16);
+            assert_eq!(self.lifetimes(&other, 16, [0; 3], &[[0, 0]]), Err(11));
         }
         for key in [1, 8, 64, first_cell(21), last_cell(21), 0, 16] {
             self.look_up(&root, key);
@@ -250,6 +324,10 @@ impl Sample {
         assert!(!self.list(&root, 3, [2, 3], [].into_iter()) && !self.list(&root, usize::MAX, [9, 9], [].into_iter()));
         assert!(!self.dual_cell(&root, MIDDLE, 1, [0, 7].into_iter()));
         assert!(!self.slabs(&root, MIDDLE, 1, 0) && !self.slabs(&root, MIDDLE, 1, 16) && !self.slabs(&root, 0, 1, 15));
+        for exponent in [0, 2] {
+            self.lifetimes_with_room(&root, exponent);
+        }
+        self.lifetimes_refused(&root, 0);
 
         let nine = self.put(tree(&[1]));
         assert!(self.sound(&nine));
@@ -273,6 +351,10 @@ impl Sample {
         for (vertex, level) in [(MIDDLE, 0), (MIDDLE, 21), (1 << 63, 1), (last_cell(20) << 3, 19), (0, 1)] {
             assert!(!self.slabs(&nine, vertex, level, 15) && !self.slabs(&nine, vertex, level, 16));
         }
+        for exponent in [0, 2, 5] {
+            self.lifetimes_with_room(&nine, exponent);
+        }
+        self.lifetimes_refused(&nine, 2);
         // Each condition of a sound tree at one place.
         for (place, key, leaf) in
             [(0, 0, 8), (0, 2, 8), (1, 7, 8), (1, 8, 1), (1, 8, 10), (3, 9, 10), (3, 11, 10), (8, 16, 15), (8, 120, 15)]
@@ -303,6 +385,7 @@ impl Sample {
         self.look_up(&changed, 64);
         assert!(!self.list(&changed, 0, [0, 0], [].into_iter()) && !self.dual_cell(&changed, MIDDLE, 1, [0].into_iter()));
         assert!(!self.slabs(&changed, MIDDLE, 1, 16));
+        assert_eq!(self.lifetimes(&changed, 2, [IN_ALL; 3], &[[0, 1]]), Err(11));
         self.put_at(put, place);
     }
 
@@ -338,6 +421,15 @@ impl Sample {
             self.slabs_of_every_kind(&put, vertex, level);
         }
         assert!(!self.slabs(&put, corner(512, 7), 2, 0) && !self.slabs(&put, corner(512, 7), 2, 16));
+        for exponent in [0, 2, 5, 9] {
+            self.lifetimes_with_room(&put, exponent);
+        }
+        self.lifetimes_refused(&put, 5);
+        // One leaf after another.
+        let leaves = put.lengths[3];
+        for leaf in (0..leaves).step_by(17) {
+            assert_eq!(self.lifetimes(&put, 4, [leaves, leaves, 16], &[[leaf, leaf % 16]]), Ok(()));
+        }
         for key in [64, 512, 519, 65, 520, 8 * 519 + 3, 1, 9, 127, last_cell(20), first_cell(20), 128] {
             self.look_up(&put, key);
         }
@@ -382,6 +474,10 @@ impl Sample {
                 assert!(self.slabs(&put, vertex, level, exponent) && self.slabs(&put, vertex, 20, exponent));
             }
         }
+        for exponent in [2, 9, 10] {
+            self.lifetimes_with_room(&put, exponent);
+        }
+        self.lifetimes_refused(&put, 9);
         let mut split = above(end);
         split.push(end);
         let deeper = Put::whole(tree(&split));
@@ -394,5 +490,6 @@ impl Sample {
         }
         assert!(!self.sound(&deeper));
         self.look_up(&deeper, end);
+        assert_eq!(self.lifetimes(&deeper, 16, [0; 3], &[[0, 0]]), Err(11));
     }
 }
