@@ -8,10 +8,10 @@ use native.Mathlib.Nat.{min-eq-left}
 use native.Mathlib.Omega.{arith}
 use lib.ListN.{length, getD}
 use Rattle.morton.specs.Level.{limit}
-use Rattle.tree.specs.Tree.{Tree, StandsAt, In, NoChild, Sound}
+use Rattle.tree.specs.Tree.{Tree, StandsAt, NoChild, Sound}
 use Rattle.tree.proofs.Down.{sound-few}
 use Rattle.tree.proofs.Finding.{nodes}
-use Rattle.tree.proofs.Lists.{order, in-at, in-cast, stands-in, ascending-place}
+use Rattle.tree.proofs.Lists.{order, in-cast, stands-in, ascending-place}
 use Rattle.tree.proofs.Pass.{Walked, start, all-eight, not-too-deep, leaf-next, no-more-keys, no-more-leaves, first-here, first-none, after-split, after-leaf}
 use Rattle.lifetimes.specs.Needed.{howMany}
 use Rattle.lifetimes.specs.Trusted.{nodesIn, leavesOf, numberOf, LeafAt}
@@ -113,15 +113,3 @@ module _ (t : Tree) (S : Sound t) where
           number = ascending-place (t .leaves) (S .leaves-ascending) (numberOf (t .firsts) p) i (own .inside) (s .inside) (own .here ∙ sym (s .here));
           few = omega (arith, s .inside, all-leaves);
         }
-
-    -- each leaf stands somewhere
-    pub leaf-place : (i : ℕ) → i < length (t .leaves) → (p : ℕ) × Leaf p i
-    leaf-place i h =
-        let m : In (getD (t .leaves) i 0) (t .keys) = S .leaves-childless (getD (t .leaves) i 0) (in-at (t .leaves) i h) .0 in
-        (m .place, leaf-here (m .place) i (m .inside) (record { inside = h; here = sym (m .here) }))
-
-    -- and nowhere else
-    pub leaf-once : (p q i : ℕ) → Leaf p i → Leaf q i → p ≡ q
-    leaf-once p q i l r =
-        ascending-place (t .keys) (S .ascending) p q (omega (arith, l .inside, all-nodes)) (omega (arith, r .inside, all-nodes))
-        (sym (leaf-key p i l .here) ∙ leaf-key q i r .here)

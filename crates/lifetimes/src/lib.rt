@@ -56,6 +56,9 @@ fn fill(table: &mut [u32], x: u32)
 
 // ---- the leaves' numbers and slabs
 
+// While the cells are gone over, the upper halves of both tables are for finding leaves: place i of `first` has the slab of leaf i there, and `last` the number of
+// the leaf at each place, in one slot fewer for each eight places: of 8j + 7 and 8j + 8 the first's number is the second's less one, if both are leaves.
+
 // Takes down the slab of the next leaf, with no least slab so far, and counts it; no further than one past the last place.
 fn put_leaf(first: &mut [u32], number: usize, slab: u32) -> usize
     requires { ⌜ (number ≤ length (now first) + 1) × (slab < 2 ^ 15) ⌝ }
