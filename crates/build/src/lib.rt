@@ -1,3 +1,4 @@
+#![tactic(auto)]
 // The octree over a distance field, built one request at a time. From `build` in src/linear_hashed_octree.rs of isosurface 0.0.4: its hash
 // map and queue are tables that the host lends, and its closures are requests that the host answers.
 ghost use Rattle.std.specs.Prelude.{◌≡◌, ◌+◌, ◌*◌, ◌%◌, ◌<◌, ◌≤◌, ◌^◌, min, length};

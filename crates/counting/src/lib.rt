@@ -1,3 +1,4 @@
+#![tactic(auto)]
 // What document 01's program `counts` prints for the bytes of its input: a bound byte and then f32 distances, little-endian, in the order in which
 // they are asked for.
 ghost use Rattle.std.specs.Prelude.{◌≡◌, ◌+◌, ◌≤◌, ◌<◌, length, get_or, take, drop};

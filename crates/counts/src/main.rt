@@ -1,3 +1,4 @@
+#![tactic(auto)]
 // Document 01's program: reads a bound byte and then f32 distances, and prints how many nodes, leaves and vertices the tree has. The line is proved, in
 // `counting`. No contract can say what standard input holds: that its bytes are those that were given, and that the line is written, is tested.
 use libc::{STDIN_FILENO, STDOUT_FILENO};

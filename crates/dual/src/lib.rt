@@ -1,3 +1,4 @@
+#![tactic(auto)]
 // The dual cells of a finished tree's vertices. From the search for eight nodes in `extract_surface`, in
 // src/linear_hashed_marching_cubes.rs of isosurface 0.0.4.
 ghost use Rattle.std.specs.Prelude.{◌≡◌, true, ◌^◌, ◌≤◌};

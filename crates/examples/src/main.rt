@@ -1,3 +1,4 @@
+#![tactic(auto)]
 // Document 01's examples that are run and not proved, a line for each: what is given, and whether it gives what the document says; then what the
 // program `counts` prints for some inputs.
 ghost use Rattle.std.specs.Prelude.{◌≤◌};

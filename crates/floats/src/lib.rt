@@ -1,3 +1,4 @@
+#![tactic(auto)]
 // Floats and their bit patterns, for every float and every pattern: `f32::from_bits` and `f32::to_bits` leave NaNs out. And which are finite.
 ghost use Rattle.std.specs.Prelude.{◌≡◌};
 ghost use Rattle.std.specs.Float.{binary32};

@@ -1,3 +1,4 @@
+#![tactic(auto)]
 // From which slab to which slab each leaf of a tree is needed, over all its dual cells, and how many leaves are needed at each slab. Ours: the Rust frees nothing.
 ghost use Rattle.std.specs.Prelude.{◌≡◌, ◌+◌, ◌*◌, ◌^◌, ◌<◌, ◌≤◌, min, length, take, replicate, slice_index};
 ghost use Rattle.morton.specs.Level.{limit};

@@ -1,3 +1,4 @@
+#![tactic(auto)]
 // The boundary for hosts, builds: numbers and slices only. include/mittenhelm.h declares each function for C.
 ghost use Rattle.std.specs.Prelude.{◌≡◌, ◌≤◌, length, get_or};
 ghost use Rattle.morton.specs.Level.{limit};

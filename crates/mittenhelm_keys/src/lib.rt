@@ -1,3 +1,4 @@
+#![tactic(auto)]
 // The boundary for hosts, keys: numbers only. include/mittenhelm.h declares each function for C.
 ghost use Rattle.std.specs.Prelude.{◌≡◌, ◌&&◌, leb};
 ghost use Rattle.morton.specs.Answers.{child_of, vertex_answer, side_answer};

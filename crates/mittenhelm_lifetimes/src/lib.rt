@@ -1,3 +1,4 @@
+#![tactic(auto)]
 // The boundary for hosts, lifetimes of leaves: numbers and slices only. include/mittenhelm.h declares each function for C. It is an object of its
 // own, so that the other calls stay as they are.
 ghost use Rattle.tree.specs.Tree.{tree_of};

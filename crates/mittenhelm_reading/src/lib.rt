@@ -1,3 +1,4 @@
+#![tactic(auto)]
 // The boundary for hosts, reading: numbers and slices only. include/mittenhelm.h declares each function for C.
 ghost use Rattle.tree.specs.Tree.{tree_of, Sound, Decides};
 ghost use Rattle.vertices.specs.Listing.{lists_of};

@@ -1,3 +1,4 @@
+#![tactic(auto)]
 // The boundary for hosts, slabs of cells: numbers and slices only. include/mittenhelm.h declares each function for C. It is an object of its
 // own: beside the calls for dual cells, the search that both make would be one function of that object and not part of each call, and slower.
 ghost use Rattle.tree.specs.Tree.{tree_of};

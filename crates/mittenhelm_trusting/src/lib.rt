@@ -1,3 +1,4 @@
+#![tactic(auto)]
 // The boundary for hosts, reading a tree that was checked before: numbers and slices only. include/mittenhelm.h declares each function for C.
 ghost use Rattle.tree.specs.Down.{nodes_of};
 ghost use Rattle.tree.specs.Climb.{trusting_of};

@@ -1,3 +1,4 @@
+#![tactic(auto)]
 // Replays the sample's lines of key operations and of builds, and counts the lines that agree. The sample is the oracle's answers,
 // written by tools/sample.
 ghost use Rattle.std.specs.Prelude.{◌≡◌, min};

@@ -1,3 +1,4 @@
+#![tactic(auto)]
 // Replays the sample's lines that read a tree, and counts the lines that agree. The sample is the oracle's answers, written by
 // tools/sample. `put` lines write a tree into the tables, and the lines after them lend the first places, as many as A says.
 use dual::Tried;

@@ -1,3 +1,4 @@
+#![tactic(auto)]
 // What the programs over the fixed sample share. A line has the words OP A B C STATUS X Y Z in hexadecimal, of 2, 16, 16, 16, 2, 16, 16
 // and 16 digits, with a space after each and a newline after the last.
 ghost use Rattle.std.specs.Prelude.{◌≡◌, ◌+◌, ◌%◌, ◌^◌, ◌<◌, ◌≤◌};

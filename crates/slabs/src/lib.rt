@@ -1,3 +1,4 @@
+#![tactic(auto)]
 // The slabs that a dual cell reaches, from the lowest to the highest of its eight node centres. Ours: the Rust cuts no slabs.
 ghost use Rattle.std.specs.Prelude.{◌≡◌, ◌≤◌, min, max};
 ghost use Rattle.morton.specs.Level.{limit};

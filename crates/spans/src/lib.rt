@@ -1,3 +1,4 @@
+#![tactic(auto)]
 // From which slab to which slab each leaf of a tree is needed, over all its dual cells. Ours: the Rust frees nothing.
 ghost use Rattle.std.specs.Prelude.{◌≡◌, List, ◌++◌, ◌+◌, ◌*◌, ◌/◌, ◌^◌, ◌<◌, ◌≤◌, min, length, get_or, take, replicate};
 ghost use Rattle.morton.specs.Level.{limit};
