@@ -12,7 +12,7 @@ use morton::Key;
 const MOST_NODES: usize = 4096;
 
 // How long the lent tables are.
-#[derive(Drop)]
+#[derive(Clone, Copy)]
 pub struct Lengths {
     pub keys: usize,
     pub distances: usize,
@@ -22,7 +22,7 @@ pub struct Lengths {
 }
 
 // A cell whose distance is asked for: its key, its centre and its half size.
-#[derive(Drop)]
+#[derive(Clone, Copy)]
 pub struct Request {
     pub key: u64,
     pub x: f32,
@@ -32,7 +32,7 @@ pub struct Request {
 }
 
 // What a host keeps between two calls. `asked` is 0 where nothing is asked; the lengths are those of the start.
-#[derive(Drop)]
+#[derive(Clone, Copy)]
 pub struct State {
     pub bound: u32,
     pub nodes: usize,
@@ -42,7 +42,7 @@ pub struct State {
 }
 
 // What to ask for next, if anything, or the number of the refusal.
-#[derive(Drop)]
+#[derive(Clone, Copy)]
 pub enum Answer {
     Ask(Request, State),
     Finished(State),

@@ -12,14 +12,14 @@ ghost use Rattle.dual.specs.Dual.{DualSays, EntryFor, RefusedSays, AroundSays, T
 use morton::Key;
 
 // How many keys were tried, or the number of the refusal.
-#[derive(Drop)]
+#[derive(Clone, Copy)]
 pub enum Tried {
     Keys(u32),
     Refused(u32),
 }
 
 // A dual cell in corner order: entry w is the cell that has the vertex at its corner w.
-#[derive(Drop)]
+#[derive(Clone, Copy)]
 pub struct Dual {
     pub tried: Tried,
     pub keys: [u64; 8],
@@ -28,7 +28,7 @@ pub struct Dual {
 }
 
 // One entry of a dual cell.
-#[derive(Drop)]
+#[derive(Clone, Copy)]
 struct Entry {
     key: u64,
     distance: f32,

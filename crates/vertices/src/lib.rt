@@ -14,7 +14,7 @@ ghost use Rattle.vertices.specs.Block.{seen_by, kept_by, marked, Here, Small, Ch
 use morton::Key;
 
 // How many vertices there are, or the number of the refusal.
-#[derive(Drop)]
+#[derive(Clone, Copy)]
 pub enum ListAnswer {
     Count(usize),
     Refused(u32),

@@ -1,0 +1,31 @@
+-- `fits_at` meets its contract, test by test. Assumes nothing.
+use mathlib.Core.Bool.{not}
+use mathlib.Core.Path.{ap}
+use Rattle.build.proofs.Walk.{via_not_false, called}
+use Rattle.build.proofs.Laws.{counts}
+use native.Mathlib.Omega.{arith}
+use Rattle.build.specs.Build.{fits_at}
+use borrow.Author.Rules.{rules}
+use Rattle.build.proofs.fits_at.Goals as goal
+
+pub returns-then-not-same_lengths : goal.returns-then-not-same_lengths
+unfolding fits_at
+returns-then-not-same_lengths c = search called
+
+pub returns-then-not-counts_fit : goal.returns-then-not-counts_fit
+unfolding fits_at
+returns-then-not-counts_fit c = search called
+
+pub idle_fits-requires : goal.idle_fits-requires
+idle_fits-requires c = let k = counts _ _ _ (via_not_false _ _ c.counts_fit.ensures (ap not c.if-not-counts_fit.false)) in omega (arith, k.few, k.room)
+
+pub returns-then-idle_fits : goal.returns-then-idle_fits
+unfolding fits_at
+returns-then-idle_fits c = search called
+
+pub busy_fits-requires : goal.busy_fits-requires
+busy_fits-requires c = let k = counts _ _ _ (via_not_false _ _ c.counts_fit.ensures (ap not c.if-not-counts_fit.false)) in omega (arith, k.few, k.room)
+
+pub returns : goal.returns
+unfolding fits_at
+returns c = search called

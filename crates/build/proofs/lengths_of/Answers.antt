@@ -1,0 +1,8 @@
+-- `lengths_of` meets its contract. Assumes nothing.
+use mathlib.Core.Path.{refl}
+use Rattle.build.specs.Build.{lengths_of}
+use Rattle.build.proofs.lengths_of.Goals as goal
+
+pub returns : goal.returns
+unfolding lengths_of
+returns c = refl

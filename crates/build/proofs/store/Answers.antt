@@ -1,0 +1,20 @@
+-- `store` meets its contract: the node, then the leaf or the children, each at its place. Assumes nothing.
+use mathlib.Core.Path.{refl}
+use Rattle.build.specs.Build.{first_of, stored_of, leaves_of, queue_of}
+use native.Mathlib.Omega.{arith}
+use borrow.Author.Rules.{rules}
+use Rattle.build.proofs.store.Goals as goal
+
+pub put_children-requires : goal.put_children-requires
+put_children-requires c = let r = c.requires.ring_room c.if-split.true in omega arith
+
+pub returns-then-split : goal.returns-then-split
+unfolding first_of stored_of leaves_of queue_of
+returns-then-split c = rw (c.if-split.true, c.put_children.ensures) (refl, refl)
+
+pub bounds-leaves-m : goal.bounds-leaves-m
+bounds-leaves-m c = c.requires.leaf_room c.if-split.false
+
+pub returns : goal.returns
+unfolding first_of stored_of leaves_of queue_of
+returns c = rw c.if-split.false (refl, refl)

@@ -1,0 +1,16 @@
+-- What the loop of `lower_at` keeps, and how it ends.
+use Prim.Native.Nat.{ℕ, ◌-◌, ◌≤◌, ◌<◌}
+use mathlib.Core.Path.{◌≡◌, refl, sym, ◌∙◌}
+use native.Mathlib.Omega.{arith}
+use borrow.Author.Rules.{rules}
+use lib.ListN.{length, get_or, length-set}
+use Rattle.vertices.specs.Block.{lowered_at}
+use Rattle.vertices.proofs.Blocks.{filled_more}
+use Rattle.vertices.proofs.Places.{at_is}
+use Rattle.vertices.proofs.lower_at.Given as goal
+
+abbrev pub invariant-loop-o : goal.invariant-loop-o
+invariant-loop-o l = (l.o ≤ 8) × (length l.out ≡ 8) × ((i : ℕ) → i < l.o → get_or l.out i 0 ≡ lowered_at l.firsts l.at l.mask l.child l.q i)
+
+abbrev pub decreases-loop-o : goal.decreases-loop-o
+decreases-loop-o l = 8 - l.o

@@ -1,0 +1,8 @@
+-- `passed` meets its contract: the number's own cell of the level lies behind. Assumes nothing.
+use mathlib.Core.Path.{refl}
+use borrow.Author.Rules.{rules}
+use Rattle.vertices.proofs.Places.{passed_lt}
+use Rattle.vertices.proofs.passed.Goals as goal
+
+pub returns : goal.returns
+returns c = passed_lt _ _ _ _ c.requires.0 refl
