@@ -9,20 +9,6 @@ use Rattle.tree.proofs.Pass.{said, denied}
 use Rattle.vertices.specs.Cells.{cells_of}
 use Rattle.vertices.proofs.Blocks.{here_small, here_near, here_bound, here_child, step_on, child_still, child_divided, meets_is, place_is}
 use Rattle.vertices.proofs.Storing.{Partly, partly_none, partly_more, partly_all, grown_skipped, grown_none, grown_taken, grown_deep, grown_on, stored_room, unskipped}
-use borrow.Fn.Kinds.{In}
-use borrow.Fn.PlainCycle.{Measures, is, falls, and}
-use Rattle.vertices.proofs.gather.Reads as gather
-use Rattle.vertices.proofs.gather.Kinds as gather-kinds
-use Rattle.vertices.proofs.+gather.Lts-gather as gather-lts
-use Rattle.vertices.proofs.low_corner.Reads as low-corner-reads
-use Rattle.vertices.proofs.lower_at.Reads as lower-at-reads
-use Rattle.vertices.proofs.lower_mask.Reads as lower-mask-reads
-use Rattle.vertices.proofs.skipped.Reads as skipped-reads
-use Rattle.vertices.proofs.split_below.Reads as split-below-reads
-use Rattle.vertices.proofs.take.Reads as take-reads
-use Rattle.vertices.proofs.touched.Reads as touched-reads
-use Rattle.vertices.proofs.+gather.{statement}
-use Rattle.vertices.proofs.+gather.Tie.{close}
 use Rattle.vertices.proofs.+gather.Given as goal
 
 abbrev pub invariant-loop-q : goal.invariant-loop-q
@@ -30,3 +16,6 @@ invariant-loop-q l = (l.q ≤ 8) × (length l.vertices ≡ length l.initial.vert
 
 abbrev pub decreases-loop-q : goal.decreases-loop-q
 decreases-loop-q l = 8 - l.q
+
+abbrev pub decreases-gather : goal.decreases-gather
+decreases-gather l = 22 - l.level
