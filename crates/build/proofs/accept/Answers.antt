@@ -4,7 +4,7 @@ use borrow.Author.Rules.{rules}
 use Rattle.build.proofs.accept.Goals as goal
 
 pub advance-requires : goal.advance-requires
-advance-requires c = ready_leaves _ _ _ _ c.before?.before.requires c.store.ensures.0
+advance-requires c = ready_leaves _ _ _ _ c.requires c.store-m.ensures.0
 
 pub returns : goal.returns
-returns c = accept_is _ _ _ _ _ _ _ c.store.ensures.0 c.store.ensures.1 c.advance.ensures
+returns c = accept_is _ _ _ _ _ _ _ c.store-m.ensures.0 c.store-m.ensures.1 c.advance.ensures
