@@ -10,7 +10,7 @@ use dual::Tried;
 use morton::Key;
 
 // The first and the last slab that a cell reaches, from 0 on, or the number of the refusal.
-#[derive(Drop)]
+#[derive(Clone, Copy)]
 pub enum SlabsAnswer {
     Reach { first: u32, last: u32 },
     Refused(u32),

@@ -1,0 +1,14 @@
+-- What the loop of `gather` keeps, and how it ends.
+use Prim.Native.Nat.{◌-◌}
+use mathlib.Core.Path.{sym, ◌∙◌}
+use mathlib.Core.List.{◌++◌}
+use borrow.Author.Rules.{rules}
+use native.Mathlib.Omega.{arith}
+use Rattle.spans.proofs.Gathering.{GatheredTo, gathered_none, word_inside, gathered_more, gathered_all}
+use Rattle.spans.proofs.gather.Given as goal
+
+abbrev pub invariant-loop-place : goal.invariant-loop-place
+invariant-loop-place l = GatheredTo l.firsts l.nodes (l.initial.first ++ l.last) l.last l.first l.number l.place
+
+abbrev pub decreases-loop-place : goal.decreases-loop-place
+decreases-loop-place l = l.nodes - l.place
