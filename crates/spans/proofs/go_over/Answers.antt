@@ -9,50 +9,63 @@ use Rattle.vertices.specs.Cells.{Cells, cells_of}
 use Rattle.spans.proofs.Going.{Going, going_none, going_all, to_go, Sized, at_most, batch_inside, next_fits, going_less, going_more}
 use Rattle.spans.proofs.go_over.Goals as goal
 
-module _ (c : tie.After-cells-trusting invariant-loop decreases-loop) where
-  abbrev was : Cells
-  was = let l = c.before.before.before.before.before.loop in cells_of l.vertices l.levels l.places
-
-  abbrev left : Cells
-  left = let k = c.cells-trusting.new in cells_of k.1.1.1.0 k.1.1.1.1.0 k.1.1.1.1.1.0
-
-  sized : Sized left
-  sized =
-      let l = c.before.before.before.before.before.loop.invariant.0 in
-      let k = c.cells-trusting.auto in
-      (k.1.1.1.0 ∙ l.0, k.1.1.1.1.0 ∙ l.1, k.1.1.1.1.1.0 ∙ l.2)
-
-  came-few : c.cells-trusting.result ≤ 128
-  came-few =
-      let l = c.before.before.before.before.before.loop in
-      at_most l.invariant.1 c.before.before.before.before.loop-test.true was left l.invariant.0 c.cells-trusting.ensures
-
+-- once a batch has come
 pub loop-came-init : goal.loop-came-init
 loop-came-init c = ((refl, refl, refl), going_none _ _ _ _ c.requires.1)
 
 pub overflow_mul-places : goal.overflow_mul-places
-overflow_mul-places c = record { fits = omega (arith, came-few @PLACE:After-widen-arg2-unread@) }
+overflow_mul-places c =
+    let l = c.loop-came in
+    let w = c.cells_trusting-came in
+    let few : w.result ≤ 128 = at_most l.invariant.1 c.loop-came-test.true (cells_of l.vertices l.levels l.places) (cells_of w.new.vertices w.new.levels w.new.places) l.invariant.0 w.ensures in
+    record { fits = omega (arith, few) }
 
 pub slice_bounds-places-end : goal.slice_bounds-places-end
-slice_bounds-places-end c = omega (arith, came-few @PLACE:After-widen-arg2@, (sized @PLACE:After-widen-arg2@).2)
+slice_bounds-places-end c =
+    let l = c.loop-came in
+    let w = c.cells_trusting-came in
+    let sized : Sized (cells_of w.new.vertices w.new.levels w.new.places) = (w.auto.vertices ∙ l.invariant.0.0, w.auto.levels ∙ l.invariant.0.1, w.auto.places ∙ l.invariant.0.2) in
+    let few : w.result ≤ 128 = at_most l.invariant.1 c.loop-came-test.true (cells_of l.vertices l.levels l.places) (cells_of w.new.vertices w.new.levels w.new.places) l.invariant.0 w.ensures in
+    omega (arith, few, sized.2)
 
 pub slice_bounds-widen-end : goal.slice_bounds-widen-end
-slice_bounds-widen-end c = sym (length-take-le _ _ (omega (arith, came-few @PLACE:After-places3@, (sized @PLACE:After-places3@).2)))
+slice_bounds-widen-end c =
+    let l = c.loop-came in
+    let w = c.cells_trusting-came in
+    let sized : Sized (cells_of w.new.vertices w.new.levels w.new.places) = (w.auto.vertices ∙ l.invariant.0.0, w.auto.levels ∙ l.invariant.0.1, w.auto.places ∙ l.invariant.0.2) in
+    let few : w.result ≤ 128 = at_most l.invariant.1 c.loop-came-test.true (cells_of l.vertices l.levels l.places) (cells_of w.new.vertices w.new.levels w.new.places) l.invariant.0 w.ensures in
+    sym (length-take-le _ _ (omega (arith, few, sized.2)))
 
 pub widen-requires : goal.widen-requires
-widen-requires c = let l = c.loop-came in (l.invariant.1.widens.ready, batch_inside l.invariant.1 c.loop-came-test.true (was b) (left b) l.invariant.0 c.cells_trusting-came.ensures (λ i. (c.shared_slice_known-2-1.given i).fits) c.requires.0)
+widen-requires c =
+    let l = c.loop-came in
+    let w = c.cells_trusting-came in
+    (l.invariant.1.widens.ready, batch_inside l.invariant.1 c.loop-came-test.true (cells_of l.vertices l.levels l.places) (cells_of w.new.vertices w.new.levels w.new.places) l.invariant.0 w.ensures (λ i. (c.shared_slice_known-2-1.given i).fits) c.requires.0)
 
 pub slice_bounds-next_from-end : goal.slice_bounds-next_from-end
-slice_bounds-next_from-end c = sym (sized @PLACE:After-vertices3@).0
+slice_bounds-next_from-end c =
+    let l = c.loop-came in
+    let w = c.cells_trusting-came in
+    sym (w.auto.vertices ∙ l.invariant.0.0)
 
 pub next_from-from-requires : goal.next_from-from-requires
-next_from-from-requires c = let l = c.loop-came in ((sized b).0, next_fits l.invariant.1 c.loop-came-test.true (was b) (left b) l.invariant.0 c.cells_trusting-came.ensures)
+next_from-from-requires c =
+    let l = c.loop-came in
+    let w = c.cells_trusting-came in
+    (w.auto.vertices ∙ l.invariant.0.0, next_fits l.invariant.1 c.loop-came-test.true (cells_of l.vertices l.levels l.places) (cells_of w.new.vertices w.new.levels w.new.places) l.invariant.0 w.ensures)
 
 pub loop-came-smaller : goal.loop-came-smaller
-loop-came-smaller c = let l = c.loop-came in going_less l.invariant.1 c.loop-came-test.true (was b) (left b) l.invariant.0 c.cells_trusting-came.ensures c.next_from-from.ensures
+loop-came-smaller c =
+    let l = c.loop-came in
+    let w = c.cells_trusting-came in
+    going_less l.invariant.1 c.loop-came-test.true (cells_of l.vertices l.levels l.places) (cells_of w.new.vertices w.new.levels w.new.places) l.invariant.0 w.ensures c.next_from-from.ensures
 
 pub loop-came-preserved : goal.loop-came-preserved
-loop-came-preserved c = let l = c.loop-came in (sized b, going_more l.invariant.1 c.loop-came-test.true (was b) (left b) l.invariant.0 c.cells_trusting-came.ensures c.next_from-from.ensures (sized b).2 _ refl c.widen.ensures)
+loop-came-preserved c =
+    let l = c.loop-came in
+    let w = c.cells_trusting-came in
+    let sized : Sized (cells_of w.new.vertices w.new.levels w.new.places) = (w.auto.vertices ∙ l.invariant.0.0, w.auto.levels ∙ l.invariant.0.1, w.auto.places ∙ l.invariant.0.2) in
+    (sized, going_more l.invariant.1 c.loop-came-test.true (cells_of l.vertices l.levels l.places) (cells_of w.new.vertices w.new.levels w.new.places) l.invariant.0 w.ensures c.next_from-from.ensures sized.2 _ refl c.widen.ensures)
 
 pub shape_of-first : goal.shape_of-first
 shape_of-first c = c.loop-came.invariant.1.widens.ready.first_long ∙ sym c.requires.1.first_long

@@ -13,7 +13,7 @@ pub slice_bounds-spans_in-end-4 : goal.slice_bounds-spans_in-end-4
 slice_bounds-spans_in-end-4 c = sym (length-take-le _ _ c.if-last-leaves.false)
 
 pub spans_in-requires : goal.spans_in-requires
-spans_in-requires c = let e = c.nodes_in.ensures in let f = c.Leaves-in.ensures in record { nodes_value = (e, c.if-exponent-gt-LIMIT.false); first_len = (front_long (nodes_of c.args.keys.now c.args.firsts.now) _ _ c.args.first.now e f c.if-first-leaves.false, front_long (nodes_of c.args.keys.now c.args.firsts.now) _ _ c.args.last.now e f c.if-last-leaves.false) }
+spans_in-requires c = let e = c.nodes_in.ensures in let f = c.leaves_in-leaves.ensures in record { nodes_value = (e, c.if-exponent-gt-LIMIT.false); first_len = (front_long (nodes_of c.args.keys.now c.args.firsts.now) _ _ c.args.first.now e f c.if-first-leaves.false, front_long (nodes_of c.args.keys.now c.args.firsts.now) _ _ c.args.last.now e f c.if-last-leaves.false) }
 
 pub returns : goal.returns
-returns c = says_spans (nodes_of c.args.keys.now c.args.firsts.now) _ _ c.args.first.now c.args.last.now _ _ c.Leaves-in.ensures c.if-exponent-gt-LIMIT.false c.if-first-leaves.false c.if-last-leaves.false c.spans_in.ensures
+returns c = says_spans (nodes_of c.args.keys.now c.args.firsts.now) _ _ c.args.first.now c.args.last.now _ _ c.leaves_in-leaves.ensures c.if-exponent-gt-LIMIT.false c.if-first-leaves.false c.if-last-leaves.false c.spans_in.ensures

@@ -8,7 +8,7 @@ pub go_over-requires : goal.go_over-requires
 go_over-requires c = (c.requires.nodes_value.0, ready_at (nodes_of c.args.keys.now c.args.firsts.now) _ _ _ _ c.requires.nodes_value.0 c.prepare.ensures)
 
 pub unpack-requires : goal.unpack-requires
-unpack-requires c = (same_long (nodes_of c.args.keys.now c.args.firsts.now) _ _ c.requires.nodes_value.0 c.requires.nodes_value.1 _ _ _ _ c.gather-leaves.new.1.1.0 c.clear.new.0 c.gather-leaves.result c.prepare.ensures c.go_over.ensures c.gather-leaves.ensures c.clear.ensures, small_words (nodes_of c.args.keys.now c.args.firsts.now) _ _ c.requires.nodes_value.0 c.requires.nodes_value.1 _ _ _ _ c.gather-leaves.new.1.1.0 c.clear.new.0 c.gather-leaves.result c.prepare.ensures c.go_over.ensures c.gather-leaves.ensures c.clear.ensures)
+unpack-requires c = (same_long (nodes_of c.args.keys.now c.args.firsts.now) _ _ c.requires.nodes_value.0 c.requires.nodes_value.1 _ _ _ _ c.gather-leaves.new.first c.clear.new.table c.gather-leaves.result c.prepare.ensures c.go_over.ensures c.gather-leaves.ensures c.clear.ensures, small_words (nodes_of c.args.keys.now c.args.firsts.now) _ _ c.requires.nodes_value.0 c.requires.nodes_value.1 _ _ _ _ c.gather-leaves.new.first c.clear.new.table c.gather-leaves.result c.prepare.ensures c.go_over.ensures c.gather-leaves.ensures c.clear.ensures)
 
 pub returns : goal.returns
-returns c = spans_left (nodes_of c.args.keys.now c.args.firsts.now) _ _ c.requires.nodes_value.0 c.requires.nodes_value.1 _ _ _ _ c.gather-leaves.new.1.1.0 c.clear.new.0 c.gather-leaves.result c.prepare.ensures c.go_over.ensures c.gather-leaves.ensures c.clear.ensures _ _ c.unpack.ensures
+returns c = spans_left (nodes_of c.args.keys.now c.args.firsts.now) _ _ c.requires.nodes_value.0 c.requires.nodes_value.1 _ _ _ _ c.gather-leaves.new.first c.clear.new.table c.gather-leaves.result c.prepare.ensures c.go_over.ensures c.gather-leaves.ensures c.clear.ensures _ _ c.unpack.ensures
