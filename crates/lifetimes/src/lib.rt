@@ -11,14 +11,14 @@ ghost use Rattle.lifetimes.specs.Trusted.{nodes_in, leaves_of, TrustingSays};
 ghost use Rattle.lifetimes.specs.Steps.{PutLeaf, Numbered, Ready, Finds, MeetingSays, PullSays, Widened, Widens, NextFrom, Prepared, AllUnpacked, Within, SpansLeft, Differs, SumsUp, most_in, Counted, ReportLeft};
 
 // The greatest number of leaves that are needed at one slab, or the number of the refusal.
-#[derive(Drop)]
+#[derive(Clone, Copy)]
 pub enum LifetimesAnswer {
     Greatest(u32),
     Refused(u32),
 }
 
 // The leaves of a cell, and its least and greatest slab.
-#[derive(Drop)]
+#[derive(Clone, Copy)]
 struct Meeting {
     numbers: [usize; 8],
     low: u32,
