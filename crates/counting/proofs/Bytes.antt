@@ -87,9 +87,9 @@ unfolding after_all
 after_refused [] k t = refl
 after_refused (d ∷ ds) k t = after_refused ds k t
 
--- an answer of tag 1 or 2 is one of these
-after_idle : (ds : List Float) (a : Answer) (t : Tables) → OneOf (1 ∷ 2 ∷ []) (tag_of the_type a) → after_all ds (outcome a t) ≡ outcome a t
-after_idle ds (Ask r s) t k = absurd (⊎_elim (λ e. omega arith) (λ e. omega arith) k)
+-- an answer that asks for nothing is one of these
+after_idle : (ds : List Float) (a : Answer) (t : Tables) → ((r : Request) (s : State) → a ≡ Ask r s → ⊥) → after_all ds (outcome a t) ≡ outcome a t
+after_idle ds (Ask r s) t k = absurd (k r s refl)
 after_idle ds (Finished s) t k = after_finished ds s t
 after_idle ds (Refused n) t k = after_refused ds n t
 
@@ -125,5 +125,5 @@ module _ {input : List ℕ} {was : Tables} {at : ℕ} {a : Answer} {t : Tables} 
   unfolding after_all
   ends_short {b} e l = ends e (ap (λ (ds : List Float). after_all ds (outcome b t)) (read_none input at l))
 
-  pub ends_idle : OneOf (1 ∷ 2 ∷ []) (tag_of the_type a) → outcome a t ≡ whole_of input was
+  pub ends_idle : ((r : Request) (s : State) → a ≡ Ask r s → ⊥) → outcome a t ≡ whole_of input was
   ends_idle k = ends refl (after_idle (distances_in (drop at input)) a t k)

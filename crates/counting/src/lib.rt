@@ -13,7 +13,7 @@ use build::{Answer, State};
 use vertices::ListAnswer;
 
 // A line's bytes and how many they are; zeros follow.
-#[derive(Drop)]
+#[derive(Clone, Copy)]
 pub struct Text {
     pub bytes: [u8; 64],
     pub length: usize,
