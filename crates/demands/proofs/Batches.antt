@@ -21,7 +21,7 @@ use Rattle.vertices.proofs.Batches.{spots_ascending, Gone, gone_begun, from_fits
 use Rattle.dual.specs.declared.Tried.TheVariants.{Keys}
 use Rattle.dual.specs.Dual.{DualCell}
 use Rattle.dual.proofs.Filling.{answer_at, dual_inside, trusting_dual}
-use Rattle.demands.specs.Batches.{CellAt, OfEachCall, with_batch, Batches, Done, OfFullBatches, OfAllBatches, AllCells, OfSoundTreesInBatches}
+use Rattle.demands.specs.Batches.{CellAt, OfEachCall, with_batch, Batches, OfFullBatches, OfAllBatches, AllCells, OfSoundTreesInBatches}
 use Rattle.demands.specs.Batches.Batches.{begun, full}
 use Rattle.demands.specs.Batches.Done.{done}
 

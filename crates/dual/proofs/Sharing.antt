@@ -1,7 +1,7 @@
 -- The ways down that sides share: those of one parent need one way alone, and what it comes to tells the entries of them all. Assumes nothing.
 use Prim.Native.Nat.{ℕ, zero, suc, ◌+◌, ◌-◌, ◌*◌, ◌/◌, ◌%◌, ◌^◌, ◌≤◌, ◌<◌}
 use mathlib.Core.Path.{◌≡◌, refl, sym, ◌∙◌, ap, ap₂, subst}
-use mathlib.Core.Bool.{Bool, true, false, ◌&&◌, true≢false}
+use mathlib.Core.Bool.{Bool, true, ◌&&◌, true≢false}
 use mathlib.Core.Logic.{inl, ⊎_elim}
 use mathlib.Core.List.{List}
 use native.Mathlib.Nat.{div-one}

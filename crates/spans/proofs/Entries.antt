@@ -1,12 +1,11 @@
 -- The words of a cell's nodes are raised, one after another. Assumes nothing.
-use Prim.Native.Nat.{ℕ, ◌+◌, ◌-◌, ◌*◌, ◌/◌, ◌≤◌, ◌<◌}
+use Prim.Native.Nat.{ℕ, ◌+◌, ◌*◌, ◌/◌, ◌≤◌, ◌<◌}
 use mathlib.Core.Path.{◌≡◌, refl, sym, ◌∙◌, ap, subst}
 use mathlib.Core.List.{List, ◌++◌}
 use mathlib.Core.Logic.{◌⊎◌, inl, inr, ⊎_elim}
 use native.Mathlib.Omega.{arith}
 use lib.ListN.{length, get_or}
 use Rattle.tree.proofs.Lists.{order}
-use Rattle.spans.specs.Trusted.{leaves_of}
 use Rattle.spans.specs.Steps.{Small, Raised, own, Ready, RaiseSays, Entry, AllRaised, Inside}
 use Rattle.spans.proofs.HowMany.{same}
 use Rattle.spans.proofs.Raising.{raised_small}

@@ -1,8 +1,8 @@
 -- What the steps of the call promise. Both tables, one after the other, are its memory: place p has a word of the node there, with the highest slab so far in its lower
 -- half, and what the lowest is less than 32,767 in its upper half. After the words come the nodes' slabs, one for each four siblings. Assumes nothing.
-use Rattle.std.specs.Prelude.{ℕ, ◌+◌, ◌-◌, ◌*◌, ◌/◌, ◌%◌, ◌^◌, ◌≤◌, ◌<◌, min, max, ◌≡◌, ◌⊎◌, List, [], ◌++◌, length, get_or}
+use Rattle.std.specs.Prelude.{ℕ, ◌+◌, ◌-◌, ◌*◌, ◌/◌, ◌%◌, ◌≤◌, ◌<◌, min, max, ◌≡◌, ◌⊎◌, List, [], ◌++◌, length, get_or}
 use Rattle.tree.specs.Down.{Nodes}
-use Rattle.spans.specs.Trusted.{nodes_in, leaves_of, number_of, LeafAt, Beside, slab_of_place, TrustedSpans}
+use Rattle.spans.specs.Trusted.{nodes_in, leaves_of, number_of, LeafAt, Beside, slab_of_place}
 
 abbrev pub upper : ℕ → ℕ
 upper x = x / 65536

@@ -1,6 +1,5 @@
 -- `accept` meets its contract: it stores, then it advances. Assumes nothing.
 use Rattle.build.proofs.Laws.{ready_leaves, accept_is}
-use borrow.Author.Rules.{rules}
 use Rattle.build.proofs.accept.Goals as goal
 
 pub advance-requires : goal.advance-requires

@@ -2,7 +2,6 @@
 use Rattle.build.proofs.Walk.{called}
 use borrow.Author.Tests.{lt-ltb}
 use Rattle.build.specs.Build.{advance_of, moved_of}
-use borrow.Author.Rules.{rules}
 use Rattle.build.proofs.advance.Goals as goal
 
 pub returns-then-n-leaves : goal.returns-then-n-leaves

@@ -1,6 +1,5 @@
 -- `after` meets its contract: only the last place is followed by 0. Assumes nothing.
 use Rattle.build.proofs.Ring.{after_last, after_other}
-use borrow.Author.Rules.{rules}
 use Rattle.build.proofs.after.Goals as goal
 
 pub returns-then-at-length : goal.returns-then-at-length

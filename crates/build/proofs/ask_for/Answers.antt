@@ -1,6 +1,5 @@
 -- `ask_for` meets its contract: the extent, as data. Assumes nothing.
 use Rattle.build.proofs.Asking.{request_is}
-use borrow.Author.Rules.{rules}
 use Rattle.build.proofs.ask_for.Goals as goal
 
 pub returns : goal.returns

@@ -1,7 +1,6 @@
 -- `busy_fits` meets its contract, test by test. Assumes nothing.
 use Rattle.build.specs.Build.{busy_fits}
 use Rattle.build.proofs.Walk.{called}
-use borrow.Author.Rules.{rules}
 use Rattle.build.proofs.busy_fits.Goals as goal
 
 pub returns-then-not-is_cell_to : goal.returns-then-not-is_cell_to

@@ -1,6 +1,5 @@
 -- `distance` meets its contract: it is refused with the number, or accepted. Assumes nothing.
 use Rattle.build.proofs.Laws.{call_ready, call_refused, call_accepted}
-use borrow.Author.Rules.{rules}
 use Rattle.build.proofs.distance.Goals as goal
 
 pub returns-then-number-ne0 : goal.returns-then-number-ne0

@@ -5,7 +5,6 @@ use Rattle.build.proofs.Walk.{via_not_false, called}
 use Rattle.build.proofs.Laws.{counts}
 use native.Mathlib.Omega.{arith}
 use Rattle.build.specs.Build.{fits_at}
-use borrow.Author.Rules.{rules}
 use Rattle.build.proofs.fits_at.Goals as goal
 
 pub returns-then-not-same_lengths : goal.returns-then-not-same_lengths

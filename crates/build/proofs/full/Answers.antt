@@ -1,7 +1,6 @@
 -- `full` meets its contract, test by test. Assumes nothing.
 use Rattle.build.specs.Build.{full_of}
 use Rattle.build.proofs.Walk.{called}
-use borrow.Author.Rules.{rules}
 use Rattle.build.proofs.full.Goals as goal
 
 pub returns-then-s : goal.returns-then-s

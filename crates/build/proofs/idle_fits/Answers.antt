@@ -1,7 +1,6 @@
 -- `idle_fits` meets its contract, test by test. Assumes nothing.
 use Rattle.build.specs.Build.{idle_fits}
 use Rattle.build.proofs.Walk.{called}
-use borrow.Author.Rules.{rules}
 use Rattle.build.proofs.idle_fits.Goals as goal
 
 pub returns-then-s-ne0 : goal.returns-then-s-ne0

@@ -5,7 +5,6 @@ use lib.Dec.{leb}
 use mathlib.Core.Path.{ap}
 use Rattle.build.proofs.Walk.{and_yes, via_not_false, called}
 use Rattle.build.specs.Build.{cell_to}
-use borrow.Author.Rules.{rules}
 use Rattle.build.proofs.is_cell_to.Goals as goal
 
 pub returns-then-not-is_cell : goal.returns-then-not-is_cell

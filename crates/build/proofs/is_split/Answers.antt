@@ -1,7 +1,6 @@
 -- `is_split` meets its contract: no cell is deeper than the split test asks. Assumes nothing.
 use Rattle.build.proofs.Laws.{split_is}
 use Rattle.build.specs.Build.{split_of}
-use borrow.Author.Rules.{rules}
 use Rattle.build.proofs.is_split.Goals as goal
 
 pub returns : goal.returns

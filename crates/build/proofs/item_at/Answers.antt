@@ -3,7 +3,7 @@ use mathlib.Core.Path.{ap, sym}
 use Prim.Native.Nat.{ℕ, ◌%◌}
 use lib.ListN.{get_or, length, get_or-eq_default}
 use Rattle.build.proofs.Ring.{place_inside}
-use borrow.Author.Rules.{scaled_Fits, rules}
+use borrow.Author.Rules.{scaled_Fits}
 use Rattle.build.specs.Build.{item_at}
 use native.Mathlib.Omega.{arith}
 use Rattle.build.proofs.item_at.Goals as goal

@@ -1,6 +1,5 @@
 -- `place` meets its contract: an item below the length sits at its own number. Assumes nothing.
 use Rattle.build.proofs.Ring.{place_before}
-use borrow.Author.Rules.{rules}
 use Rattle.build.proofs.place.Goals as goal
 
 pub returns-then-item-length : goal.returns-then-item-length

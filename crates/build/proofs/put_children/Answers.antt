@@ -1,8 +1,7 @@
 -- `put_children` meets its contract: after i rounds the first i children are stored. Assumes nothing.
-use Rattle.build.proofs.Ring.{Putting, putting_length, putting_inside, putting_still, putting_start, putting_more}
+use Rattle.build.proofs.Ring.{putting_length, putting_inside, putting_still, putting_start, putting_more}
 use mathlib.Core.Path.{◌≡◌}
 use borrow.Author.Rules.{scaled_Fits}
-use Prim.Native.Nat.{◌-◌}
 use native.Mathlib.Omega.{arith}
 use Rattle.build.proofs.put_children.Goals as goal
 

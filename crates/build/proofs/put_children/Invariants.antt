@@ -1,9 +1,6 @@
 -- What the loop of `put_children` keeps, and how it ends.
-use Rattle.build.proofs.Ring.{Putting, putting_length, putting_inside, putting_still, putting_start, putting_more}
-use mathlib.Core.Path.{◌≡◌}
-use borrow.Author.Rules.{scaled_Fits}
+use Rattle.build.proofs.Ring.{Putting}
 use Prim.Native.Nat.{◌-◌}
-use native.Mathlib.Omega.{arith}
 use Rattle.build.proofs.put_children.Given as goal
 
 abbrev pub invariant-loop-i : goal.invariant-loop-i

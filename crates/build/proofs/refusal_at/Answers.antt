@@ -5,7 +5,6 @@ use Rattle.build.proofs.Laws.{asked}
 use mathlib.Core.Path.{ap, ◌∙◌}
 use native.Mathlib.Omega.{arith}
 use Rattle.build.specs.Build.{full_of, refusal_at}
-use borrow.Author.Rules.{rules}
 use borrow.Author.Tests.{ne_eqb}
 use Rattle.build.proofs.refusal_at.Goals as goal
 

@@ -1,7 +1,6 @@
 -- `refusal_of` meets its contract: what the calls gave is what the definition says. Assumes nothing.
 use native.Mathlib.Omega.{arith}
 use Rattle.build.specs.Build.{node_room, refusal_of}
-use borrow.Author.Rules.{rules}
 use Rattle.build.proofs.refusal_of.Goals as goal
 
 pub refusal_at-requires : goal.refusal_at-requires

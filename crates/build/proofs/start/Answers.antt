@@ -2,7 +2,6 @@
 use borrow.Author.Tests.{le-ltb}
 use Rattle.build.proofs.Walk.{called}
 use Rattle.build.specs.Build.{start_of}
-use borrow.Author.Rules.{rules}
 use Rattle.build.proofs.start.Goals as goal
 
 pub returns-then-bound-gt-LIMIT : goal.returns-then-bound-gt-LIMIT

@@ -2,7 +2,6 @@
 use mathlib.Core.Path.{refl}
 use Rattle.build.specs.Build.{first_of, stored_of, leaves_of, queue_of}
 use native.Mathlib.Omega.{arith}
-use borrow.Author.Rules.{rules}
 use Rattle.build.proofs.store.Goals as goal
 
 pub put_children-requires : goal.put_children-requires

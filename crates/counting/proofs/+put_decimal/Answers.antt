@@ -1,6 +1,5 @@
 -- `put_decimal` meets its contract, and ends: a tenth is less. Assumes nothing.
 use native.Mathlib.Omega.{arith}
-use borrow.Author.Rules.{rules}
 use Rattle.counting.proofs.Texts.{write_small, write_more}
 use Rattle.counting.proofs.+put_decimal.Goals as goal
 

@@ -1,6 +1,5 @@
 -- `counts` meets its contract. Assumes nothing.
 use Rattle.counting.proofs.Texts.{writes_counts}
-use borrow.Author.Rules.{rules}
 use Rattle.counting.proofs.counts.Goals as goal
 
 pub returns : goal.returns

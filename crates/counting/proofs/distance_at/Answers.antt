@@ -1,7 +1,6 @@
 -- `distance_at` meets its contract. Assumes nothing.
 use mathlib.Core.Path.{◌∙◌, ap}
 use lib.Ieee.{of_bits, binary32}
-use borrow.Author.Rules.{rules}
 use Rattle.counting.proofs.distance_at.Goals as goal
 
 pub returns : goal.returns

@@ -1,12 +1,7 @@
 -- `drive` meets its contract, and ends: each distance takes four bytes. Assumes nothing.
-use Prim.Native.Nat.{◌-◌, ◌≤◌}
-use mathlib.Core.Path.{◌≡◌, refl, ◌∙◌}
-use mathlib.Core.List.{List}
+use mathlib.Core.Path.{refl, ◌∙◌}
 use native.Mathlib.Omega.{arith}
-use lib.ListN.{length}
-use borrow.Author.Rules.{rules}
-use Rattle.build.specs.Build.{tables_of}
-use Rattle.counting.proofs.Bytes.{Going, going_start, going_on, ends_short, ends_idle}
+use Rattle.counting.proofs.Bytes.{going_start, going_on, ends_short, ends_idle}
 use Rattle.counting.proofs.drive.Goals as goal
 
 pub loop-answer-init : goal.loop-answer-init

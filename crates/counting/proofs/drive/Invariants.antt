@@ -1,12 +1,10 @@
 -- What the loop of `drive` keeps, and how it ends.
 use Prim.Native.Nat.{◌-◌, ◌≤◌}
-use mathlib.Core.Path.{◌≡◌, refl, ◌∙◌}
+use mathlib.Core.Path.{◌≡◌}
 use mathlib.Core.List.{List}
-use native.Mathlib.Omega.{arith}
 use lib.ListN.{length}
-use borrow.Author.Rules.{rules}
 use Rattle.build.specs.Build.{tables_of}
-use Rattle.counting.proofs.Bytes.{Going, going_start, going_on, ends_short, ends_idle}
+use Rattle.counting.proofs.Bytes.{Going}
 use Rattle.counting.proofs.drive.Given as goal
 
 abbrev pub Same : {A : Type 0} → List A → List A → Type 0

@@ -1,7 +1,6 @@
 -- `line` meets its contract. Assumes nothing.
 use Rattle.counting.proofs.Trees.{built}
 use Rattle.counting.proofs.Lines.{line_empty, line_asked, line_finished, line_refused}
-use borrow.Author.Rules.{rules}
 use Rattle.counting.proofs.line.Goals as goal
 
 pub returns-then-input-eq0 : goal.returns-then-input-eq0

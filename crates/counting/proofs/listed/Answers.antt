@@ -1,7 +1,6 @@
 -- `listed` meets its contract: the tree of a finished build is sound. Assumes nothing.
 use mathlib.Core.Path.{sym}
 use Rattle.counting.proofs.Trees.{as_many_keys, as_many_distances, as_many_firsts, as_many_leaves, built_sound, list_is}
-use borrow.Author.Rules.{rules}
 use Rattle.counting.proofs.listed.Goals as goal
 
 pub slice_bounds-list-end : goal.slice_bounds-list-end

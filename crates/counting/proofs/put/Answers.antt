@@ -1,7 +1,6 @@
 -- `put` meets its contract. Assumes nothing.
 use mathlib.Core.Path.{sym}
 use Rattle.counting.proofs.Texts.{put_room, put_full}
-use borrow.Author.Rules.{rules}
 use Rattle.counting.proofs.put.Goals as goal
 
 pub returns-then-at-lt64 : goal.returns-then-at-lt64

@@ -1,11 +1,7 @@
 -- `put_all` meets its contract. The measure is the number of bytes that are left. Assumes nothing.
-use Prim.Native.Nat.{◌-◌, ◌≤◌}
-use mathlib.Core.Path.{◌≡◌, refl}
+use mathlib.Core.Path.{refl}
 use native.Mathlib.Omega.{arith}
-use lib.ListN.{length, drop}
-use Rattle.counting.specs.Writing.{put_all}
 use Rattle.counting.proofs.Texts.{put_next, put_last}
-use borrow.Author.Rules.{rules}
 use Rattle.counting.proofs.put_all.Goals as goal
 
 pub loop-i-init : goal.loop-i-init

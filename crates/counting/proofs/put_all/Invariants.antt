@@ -1,11 +1,8 @@
 -- What the loop of `put_all` keeps, and how it ends.
 use Prim.Native.Nat.{◌-◌, ◌≤◌}
-use mathlib.Core.Path.{◌≡◌, refl}
-use native.Mathlib.Omega.{arith}
+use mathlib.Core.Path.{◌≡◌}
 use lib.ListN.{length, drop}
 use Rattle.counting.specs.Writing.{put_all}
-use Rattle.counting.proofs.Texts.{put_next, put_last}
-use borrow.Author.Rules.{rules}
 use Rattle.counting.proofs.put_all.Given as goal
 
 abbrev pub invariant-loop-i : goal.invariant-loop-i

@@ -1,6 +1,5 @@
 -- `refused` meets its contract. Assumes nothing.
 use Rattle.counting.proofs.Texts.{writes_refused}
-use borrow.Author.Rules.{rules}
 use Rattle.counting.proofs.refused.Goals as goal
 
 pub returns : goal.returns

@@ -1,6 +1,5 @@
 -- `short` meets its contract. Assumes nothing.
 use Rattle.counting.proofs.Texts.{writes_short}
-use borrow.Author.Rules.{rules}
 use Rattle.counting.proofs.short.Goals as goal
 
 pub returns : goal.returns

@@ -1,6 +1,5 @@
 -- `tree_line` meets its contract. Assumes nothing.
 use Rattle.counting.proofs.Lines.{tree_counted, tree_refused}
-use borrow.Author.Rules.{rules}
 use Rattle.counting.proofs.tree_line.Goals as goal
 
 pub returns-in-Count : goal.returns-in-Count

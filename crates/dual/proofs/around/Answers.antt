@@ -1,14 +1,11 @@
 -- `around` meets its contract: a turn of the first loop finds one way, or skips a side that shares one; a turn of the second fills one entry. Assumes
 -- nothing.
-use Prim.Native.Nat.{◌-◌, ◌*◌, ◌≤◌}
 use mathlib.Core.Path.{refl}
 use native.Mathlib.Omega.{arith}
 use lib.Dec.{lit<}
-use borrow.Author.Rules.{rules, scaled_Fits}
-use Rattle.morton.specs.Level.{deepest}
-use Rattle.tree.specs.Down.{nodes_of}
-use Rattle.dual.proofs.Sharing.{Told, told_none, told_more, before_in, before_less, among, way_ready, way_entry}
-use Rattle.dual.proofs.Filling.{Filled, filled_none, filled_more, filled_all}
+use borrow.Author.Rules.{scaled_Fits}
+use Rattle.dual.proofs.Sharing.{told_none, told_more, before_in, before_less, among, way_ready, way_entry}
+use Rattle.dual.proofs.Filling.{filled_none, filled_more, filled_all}
 use Rattle.dual.proofs.around.Goals as goal
 
 pub loop-above-init : goal.loop-above-init

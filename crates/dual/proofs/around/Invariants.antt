@@ -1,13 +1,9 @@
 -- What the loop of `around` keeps, and how it ends.
 use Prim.Native.Nat.{◌-◌, ◌*◌, ◌≤◌}
-use mathlib.Core.Path.{refl}
-use native.Mathlib.Omega.{arith}
-use lib.Dec.{lit<}
-use borrow.Author.Rules.{rules, scaled_Fits}
 use Rattle.morton.specs.Level.{deepest}
 use Rattle.tree.specs.Down.{nodes_of}
-use Rattle.dual.proofs.Sharing.{Told, told_none, told_more, before_in, before_less, among, way_ready, way_entry}
-use Rattle.dual.proofs.Filling.{Filled, filled_none, filled_more, filled_all}
+use Rattle.dual.proofs.Sharing.{Told}
+use Rattle.dual.proofs.Filling.{Filled}
 use Rattle.dual.proofs.around.Given as goal
 
 abbrev pub invariant-loop-above : goal.invariant-loop-above

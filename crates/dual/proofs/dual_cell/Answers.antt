@@ -1,8 +1,6 @@
 -- `dual_cell` meets its contract. Assumes nothing.
-use borrow.Author.Tests.{not-true, not-false}
 use Rattle.tree.proofs.Pass.{said, denied}
 use Rattle.dual.proofs.Filling.{dual_unsound, trusting_dual}
-use borrow.Author.Rules.{rules}
 use Rattle.dual.proofs.dual_cell.Goals as goal
 
 pub returns-then-not-sound : goal.returns-then-not-sound

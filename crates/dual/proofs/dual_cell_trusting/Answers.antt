@@ -2,11 +2,9 @@
 use mathlib.Core.Path.{refl, sym, ◌∙◌}
 use mathlib.Core.Logic.{inl, inr}
 use native.Mathlib.Omega.{arith}
-use borrow.Author.Tests.{not-true, not-false}
 use Rattle.morton.proofs.Vertices.{inner_level}
 use Rattle.dual.proofs.Sharing.{inner_ready}
 use Rattle.dual.proofs.Filling.{trusting_refused, trusting_answers}
-use borrow.Author.Rules.{rules}
 use Rattle.dual.proofs.dual_cell_trusting.Goals as goal
 
 pub returns-then-not-is_inner : goal.returns-then-not-is_inner

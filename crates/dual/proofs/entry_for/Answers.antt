@@ -1,6 +1,5 @@
 -- `entry_for` meets its contract. Assumes nothing.
 use native.Mathlib.Omega.{arith}
-use borrow.Author.Rules.{rules}
 use Rattle.tree.proofs.Finding.{shifted}
 use Rattle.dual.proofs.Sharing.{entry_nothing, entry_row, entry_one}
 use Rattle.dual.proofs.entry_for.Goals as goal

@@ -1,5 +1,5 @@
 -- `count` meets its contract: the four steps one after the other. Assumes nothing.
-use Rattle.std.proofs.Common.{sym, ◌∙◌, subst, rules}
+use Rattle.std.proofs.Common.{sym, ◌∙◌, subst}
 use Rattle.lifetimes.specs.Steps.{Within}
 use Rattle.lifetimes.proofs.Counting.{filled_long, filled, settled, counted_from}
 use Rattle.lifetimes.proofs.count.Goals as goal

@@ -1,6 +1,5 @@
 -- `differ` meets its contract: a turn takes one leaf more. Assumes nothing.
-use Rattle.std.proofs.Common.{◌-◌, ◌≤◌, length, arith, rules}
-use Rattle.lifetimes.specs.Steps.{Differs}
+use Rattle.std.proofs.Common.{arith}
 use Rattle.lifetimes.proofs.Counting.{differ_start, differ_skip, differ_up, differ_both, differ_all}
 use Rattle.lifetimes.proofs.differ.Goals as goal
 
@@ -44,12 +43,11 @@ pub offset_bounds-needed-b-then-b-needed : goal.offset_bounds-needed-b-then-b-ne
 offset_bounds-needed-b-then-b-needed c = omega (arith, c.shared_slice_known-in-loop-i-2-1.given c.loop-i.i)
 
 pub loop-i-preserved-then-b-needed : goal.loop-i-preserved-then-b-needed
-loop-i-preserved-then-b-needed c =
-    (
-      omega arith,
-      differ_both c.args.first.now c.args.last.now c.loop-i.i c.args.needed.now c.loop-i.needed c.loop-i.invariant.1 c.wrapping_add_u32-up.result c.wrapping_sub_u32-down.result
-          c.if-a-b.true c.wrapping_add_u32-up.ensures.value c.if-b-needed.true c.wrapping_sub_u32-down.ensures.value,
-    )
+loop-i-preserved-then-b-needed c = (
+  omega arith,
+  differ_both c.args.first.now c.args.last.now c.loop-i.i c.args.needed.now c.loop-i.needed c.loop-i.invariant.1 c.wrapping_add_u32-up.result c.wrapping_sub_u32-down.result
+      c.if-a-b.true c.wrapping_add_u32-up.ensures.value c.if-b-needed.true c.wrapping_sub_u32-down.ensures.value,
+)
 
 pub loop-i-preserved-else-b-needed : goal.loop-i-preserved-else-b-needed
 loop-i-preserved-else-b-needed c =

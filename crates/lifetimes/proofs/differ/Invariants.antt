@@ -1,7 +1,6 @@
 -- What the loop of `differ` keeps, and how it ends.
-use Rattle.std.proofs.Common.{◌-◌, ◌≤◌, length, arith, rules}
+use Rattle.std.proofs.Common.{◌-◌, ◌≤◌, length}
 use Rattle.lifetimes.specs.Steps.{Differs}
-use Rattle.lifetimes.proofs.Counting.{differ_start, differ_skip, differ_up, differ_both, differ_all}
 use Rattle.lifetimes.proofs.differ.Given as goal
 
 abbrev pub invariant-loop-i : goal.invariant-loop-i

@@ -1,5 +1,5 @@
 -- `fill` meets its contract: a turn writes one place. Assumes nothing.
-use Rattle.std.proofs.Common.{◌≡◌, ℕ, ◌-◌, ◌≤◌, List, ◌++◌, length, drop, set, replicate, refl, ap, ◌∙◌, arith, length-set, rules}
+use Rattle.std.proofs.Common.{ℕ, List, set, refl, ap, ◌∙◌, arith, length-set}
 use borrow.Author.Fill.{fill_none, fill_more}
 use Rattle.lifetimes.proofs.Counting.{fill_all}
 use Rattle.lifetimes.proofs.fill.Goals as goal

@@ -1,7 +1,5 @@
 -- What the loop of `fill` keeps, and how it ends.
-use Rattle.std.proofs.Common.{◌≡◌, ℕ, ◌-◌, ◌≤◌, List, ◌++◌, length, drop, set, replicate, refl, ap, ◌∙◌, arith, length-set, rules}
-use borrow.Author.Fill.{fill_none, fill_more}
-use Rattle.lifetimes.proofs.Counting.{fill_all}
+use Rattle.std.proofs.Common.{◌≡◌, ◌-◌, ◌≤◌, ◌++◌, length, drop, replicate}
 use Rattle.lifetimes.proofs.fill.Given as goal
 
 abbrev pub invariant-loop-i : goal.invariant-loop-i

@@ -1,9 +1,8 @@
 -- `go_over` meets its contract: batch after batch, until one isn't full. Assumes nothing.
 use Prim.Native.Nat.{◌≤◌}
-use Rattle.std.proofs.Common.{sym, refl, ◌∙◌, arith, rules}
-use Rattle.tree.specs.Down.{nodes_of}
-use Rattle.vertices.specs.Cells.{Cells, cells_of}
-use Rattle.lifetimes.proofs.Going.{Going, going_none, going_all, to_go, Sized, at_most_64, next_fits, going_less, going_more}
+use Rattle.std.proofs.Common.{sym, refl, ◌∙◌, arith}
+use Rattle.vertices.specs.Cells.{cells_of}
+use Rattle.lifetimes.proofs.Going.{going_none, going_all, Sized, at_most_64, next_fits, going_less, going_more}
 use Rattle.lifetimes.proofs.go_over.Goals as goal
 
 -- once a batch has come

@@ -1,8 +1,7 @@
 -- What the loop of `go_over` keeps, and how it ends.
-use Rattle.std.proofs.Common.{sym, refl, ◌∙◌, arith, rules}
 use Rattle.tree.specs.Down.{nodes_of}
-use Rattle.vertices.specs.Cells.{Cells, cells_of}
-use Rattle.lifetimes.proofs.Going.{Going, going_none, going_all, to_go, Sized, at_most_64, next_fits, going_less, going_more}
+use Rattle.vertices.specs.Cells.{cells_of}
+use Rattle.lifetimes.proofs.Going.{Going, to_go, Sized}
 use Rattle.lifetimes.proofs.go_over.Given as goal
 
 abbrev pub invariant-loop-came : goal.invariant-loop-came

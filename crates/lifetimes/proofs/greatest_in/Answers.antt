@@ -1,5 +1,5 @@
 -- `greatest_in` meets its contract: a turn takes one number more. Assumes nothing.
-use Rattle.std.proofs.Common.{◌≡◌, ◌-◌, ◌≤◌, length, ap, ◌∙◌, le_antisymm, arith, rules}
+use Rattle.std.proofs.Common.{ap, ◌∙◌, le_antisymm, arith}
 use Rattle.lifetimes.specs.Steps.{most_in}
 use Rattle.lifetimes.proofs.Counting.{most_start, most_more}
 use Rattle.lifetimes.proofs.greatest_in.Goals as goal

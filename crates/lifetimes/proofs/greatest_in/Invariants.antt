@@ -1,7 +1,6 @@
 -- What the loop of `greatest_in` keeps, and how it ends.
-use Rattle.std.proofs.Common.{◌≡◌, ◌-◌, ◌≤◌, length, ap, ◌∙◌, le_antisymm, arith, rules}
+use Rattle.std.proofs.Common.{◌≡◌, ◌-◌, ◌≤◌, length}
 use Rattle.lifetimes.specs.Steps.{most_in}
-use Rattle.lifetimes.proofs.Counting.{most_start, most_more}
 use Rattle.lifetimes.proofs.greatest_in.Given as goal
 
 abbrev pub invariant-loop-slab : goal.invariant-loop-slab

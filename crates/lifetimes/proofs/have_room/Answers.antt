@@ -1,5 +1,4 @@
 -- `have_room` meets its contract. Assumes nothing.
-use Rattle.std.proofs.Common.{rules}
 use Rattle.lifetimes.proofs.Numbers.{enough}
 use Rattle.lifetimes.proofs.have_room.Goals as goal
 

@@ -1,6 +1,5 @@
 -- `leaves_of_cell` meets its contract: a turn of the loop takes one entry more. Assumes nothing.
-use Rattle.std.proofs.Common.{◌-◌, ◌≤◌, refl, arith, rules}
-use Rattle.lifetimes.specs.Steps.{MeetingSays}
+use Rattle.std.proofs.Common.{refl, arith}
 use Rattle.lifetimes.proofs.Edges.{meeting_none, meeting_leaf, meeting_other, meeting_all}
 use Rattle.lifetimes.proofs.leaves_of_cell.Goals as goal
 

@@ -1,7 +1,6 @@
 -- What the loop of `leaves_of_cell` keeps, and how it ends.
-use Rattle.std.proofs.Common.{◌-◌, ◌≤◌, refl, arith, rules}
+use Rattle.std.proofs.Common.{◌-◌, ◌≤◌}
 use Rattle.lifetimes.specs.Steps.{MeetingSays}
-use Rattle.lifetimes.proofs.Edges.{meeting_none, meeting_leaf, meeting_other, meeting_all}
 use Rattle.lifetimes.proofs.leaves_of_cell.Given as goal
 
 abbrev pub invariant-loop-o : goal.invariant-loop-o

@@ -1,6 +1,5 @@
 -- `lifetimes` meets its contract: a tree that is sound can be trusted. Assumes nothing.
-use Rattle.std.proofs.Common.{refl, inl, rules}
-use borrow.Author.Tests.{not-true, not-false}
+use Rattle.std.proofs.Common.{refl, inl}
 use Rattle.tree.proofs.Pass.{said, denied}
 use Rattle.lifetimes.proofs.Joining.{trusting_lifetimes}
 use Rattle.lifetimes.proofs.lifetimes.Goals as goal

@@ -1,6 +1,5 @@
 -- `lifetimes_trusting` meets its contract: the report stands in the first places, where there is room. Assumes nothing.
-use Rattle.std.proofs.Common.{sym, refl, ◌∙◌, inl, arith, length-take-le, rules}
-use borrow.Author.Tests.{not-true, not-false}
+use Rattle.std.proofs.Common.{sym, refl, ◌∙◌, inl, arith, length-take-le}
 use Rattle.tree.proofs.Pass.{said, denied}
 use Rattle.lifetimes.proofs.Numbers.{shifted}
 use Rattle.lifetimes.proofs.Standing.{says_short, says_report}

@@ -1,5 +1,5 @@
 -- `next_from` meets its contract. Assumes nothing.
-use Rattle.std.proofs.Common.{refl, inl, inr, rules}
+use Rattle.std.proofs.Common.{refl, inl, inr}
 use Rattle.lifetimes.proofs.next_from.Goals as goal
 
 pub overflow_add-result : goal.overflow_add-result

@@ -1,5 +1,5 @@
 -- `number_at` meets its contract: what stands in the slot, less one where the next place shares it. Assumes nothing.
-use Rattle.std.proofs.Common.{◌-◌, ◌/◌, sym, refl, ◌∙◌, arith, rules}
+use Rattle.std.proofs.Common.{◌-◌, ◌/◌, sym, refl, ◌∙◌, arith}
 use Rattle.lifetimes.proofs.Numbers.{none_past, none_split, number_enough, number_found}
 use Rattle.lifetimes.proofs.number_at.Goals as goal
 

@@ -1,6 +1,6 @@
 -- `number_leaves` meets its contract: a turn of the loop takes one place more. Assumes nothing.
-use Rattle.std.proofs.Common.{◌-◌, length, sym, ap, ◌∙◌, arith, rules}
-use Rattle.lifetimes.proofs.Numbers.{NumberedTo, numbered_none, numbered_leaf, numbered_other, prepared}
+use Rattle.std.proofs.Common.{length, sym, ap, ◌∙◌, arith}
+use Rattle.lifetimes.proofs.Numbers.{numbered_none, numbered_leaf, numbered_other, prepared}
 use lib.ListN.{length-replicate}
 use Rattle.lifetimes.proofs.Numbers.{slot_inside, number_small, slab_at_is, slab_at_small}
 use Rattle.lifetimes.proofs.number_leaves.Goals as goal

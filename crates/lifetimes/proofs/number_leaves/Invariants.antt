@@ -1,8 +1,6 @@
 -- What the loop of `number_leaves` keeps, and how it ends.
-use Rattle.std.proofs.Common.{◌-◌, length, sym, ap, ◌∙◌, arith, rules}
-use Rattle.lifetimes.proofs.Numbers.{NumberedTo, numbered_none, numbered_leaf, numbered_other, prepared}
-use lib.ListN.{length-replicate}
-use Rattle.lifetimes.proofs.Numbers.{slot_inside, number_small, slab_at_is, slab_at_small}
+use Rattle.std.proofs.Common.{◌-◌}
+use Rattle.lifetimes.proofs.Numbers.{NumberedTo}
 use Rattle.lifetimes.proofs.number_leaves.Given as goal
 
 abbrev pub invariant-loop-place : goal.invariant-loop-place

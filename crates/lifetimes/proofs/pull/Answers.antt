@@ -1,5 +1,5 @@
 -- `pull` meets its contract. Assumes nothing.
-use Rattle.std.proofs.Common.{arith, rules}
+use Rattle.std.proofs.Common.{arith}
 use Rattle.lifetimes.proofs.Edges.{pull_says, pull_none}
 use Rattle.lifetimes.proofs.pull.Goals as goal
 

@@ -1,6 +1,5 @@
 -- `pull_all` meets its contract: a turn of the loop pulls one leaf more. Assumes nothing.
-use Rattle.std.proofs.Common.{◌≡◌, ◌-◌, ◌≤◌, length, refl, ◌∙◌, arith, rules}
-use Rattle.lifetimes.specs.Steps.{Widened}
+use Rattle.std.proofs.Common.{refl, ◌∙◌, arith}
 use Rattle.lifetimes.proofs.Edges.{widened_none, widened_more, widened_all}
 use Rattle.lifetimes.proofs.pull_all.Goals as goal
 

@@ -1,7 +1,6 @@
 -- What the loop of `pull_all` keeps, and how it ends.
-use Rattle.std.proofs.Common.{◌≡◌, ◌-◌, ◌≤◌, length, refl, ◌∙◌, arith, rules}
+use Rattle.std.proofs.Common.{◌≡◌, ◌-◌, ◌≤◌, length}
 use Rattle.lifetimes.specs.Steps.{Widened}
-use Rattle.lifetimes.proofs.Edges.{widened_none, widened_more, widened_all}
 use Rattle.lifetimes.proofs.pull_all.Given as goal
 
 abbrev pub invariant-loop-o : goal.invariant-loop-o

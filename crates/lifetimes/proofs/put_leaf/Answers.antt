@@ -1,5 +1,4 @@
 -- `put_leaf` meets its contract. Assumes nothing.
-use Rattle.std.proofs.Common.{rules}
 use Rattle.lifetimes.proofs.Numbers.{put_at_end, put_past}
 use Rattle.lifetimes.proofs.put_leaf.Goals as goal
 

@@ -1,5 +1,4 @@
 -- `spans` meets its contract: each step goes on from what the one before has left. Assumes nothing.
-use Rattle.std.proofs.Common.{rules}
 use Rattle.lifetimes.proofs.Counting.{filled_as}
 use Rattle.lifetimes.proofs.Spanning.{spans_done, ready_of}
 use Rattle.lifetimes.proofs.spans.Goals as goal

@@ -1,6 +1,6 @@
 -- `sum_up` meets its contract: a turn sums up to one slab more. Assumes nothing.
-use Rattle.std.proofs.Common.{◌-◌, length, arith, rules}
-use Rattle.lifetimes.proofs.Counting.{Summed, sum_start, sum_more, sum_all}
+use Rattle.std.proofs.Common.{arith}
+use Rattle.lifetimes.proofs.Counting.{sum_start, sum_more, sum_all}
 use Rattle.lifetimes.proofs.sum_up.Goals as goal
 
 pub loop-slab-init : goal.loop-slab-init

@@ -1,6 +1,6 @@
 -- What the loop of `sum_up` keeps, and how it ends.
-use Rattle.std.proofs.Common.{◌-◌, length, arith, rules}
-use Rattle.lifetimes.proofs.Counting.{Summed, sum_start, sum_more, sum_all}
+use Rattle.std.proofs.Common.{◌-◌, length}
+use Rattle.lifetimes.proofs.Counting.{Summed}
 use Rattle.lifetimes.proofs.sum_up.Given as goal
 
 abbrev pub invariant-loop-slab : goal.invariant-loop-slab

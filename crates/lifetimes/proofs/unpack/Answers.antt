@@ -1,6 +1,6 @@
 -- `unpack` meets its contract: a turn of the loop unpacks one leaf more. Assumes nothing.
-use Rattle.std.proofs.Common.{◌-◌, ◌≤◌, length, refl, arith, rules}
-use Rattle.lifetimes.proofs.Unpacking.{UnpackedTo, unpacked_none, unpacked_never, unpacked_some, unpacked_all}
+use Rattle.std.proofs.Common.{refl, arith}
+use Rattle.lifetimes.proofs.Unpacking.{unpacked_none, unpacked_never, unpacked_some, unpacked_all}
 use Rattle.lifetimes.proofs.unpack.Goals as goal
 
 pub loop-i-init : goal.loop-i-init

@@ -1,6 +1,6 @@
 -- What the loop of `unpack` keeps, and how it ends.
-use Rattle.std.proofs.Common.{◌-◌, ◌≤◌, length, refl, arith, rules}
-use Rattle.lifetimes.proofs.Unpacking.{UnpackedTo, unpacked_none, unpacked_never, unpacked_some, unpacked_all}
+use Rattle.std.proofs.Common.{◌-◌, ◌≤◌, length}
+use Rattle.lifetimes.proofs.Unpacking.{UnpackedTo}
 use Rattle.lifetimes.proofs.unpack.Given as goal
 
 abbrev pub invariant-loop-i : goal.invariant-loop-i

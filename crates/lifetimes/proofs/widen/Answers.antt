@@ -1,6 +1,5 @@
 -- `widen` meets its contract: a turn of the loop goes over one cell more. Assumes nothing.
-use Rattle.std.proofs.Common.{◌≡◌, ◌-◌, ◌*◌, ◌≤◌, length, take, refl, ◌∙◌, arith, rules}
-use Rattle.lifetimes.specs.Steps.{Widens}
+use Rattle.std.proofs.Common.{refl, ◌∙◌, arith}
 use Rattle.lifetimes.proofs.Spanning.{widens_none, widens_more, widens_all, cell_widens}
 use Rattle.lifetimes.proofs.widen.Goals as goal
 

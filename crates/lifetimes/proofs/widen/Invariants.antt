@@ -1,7 +1,6 @@
 -- What the loop of `widen` keeps, and how it ends.
-use Rattle.std.proofs.Common.{◌≡◌, ◌-◌, ◌*◌, ◌≤◌, length, take, refl, ◌∙◌, arith, rules}
+use Rattle.std.proofs.Common.{◌≡◌, ◌-◌, ◌*◌, ◌≤◌, length, take}
 use Rattle.lifetimes.specs.Steps.{Widens}
-use Rattle.lifetimes.proofs.Spanning.{widens_none, widens_more, widens_all, cell_widens}
 use Rattle.lifetimes.proofs.widen.Given as goal
 
 abbrev pub invariant-loop-at : goal.invariant-loop-at

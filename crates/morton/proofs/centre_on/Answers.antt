@@ -1,5 +1,5 @@
 -- `centre_on` meets its contract: nothing is rounded. Assumes nothing.
-use Rattle.std.proofs.Common.{ℕ, ◌+◌, ◌*◌, ◌^◌, T, pos, sym, subst, rules}
+use Rattle.std.proofs.Common.{ℕ, ◌+◌, ◌*◌, ◌^◌, T, pos, sym, subst}
 use lib.Ieee.{binary32, add, mul, of_int, of_bits, in_float}
 use Rattle.morton.specs.Exact.{Exactly}
 use Rattle.morton.specs.Field.{third}

@@ -1,5 +1,4 @@
 -- `half_size_at` meets its contract: nothing is rounded. Assumes nothing.
-use Rattle.std.proofs.Common.{rules}
 use Rattle.morton.proofs.Sizes.{size_in, half_exactly}
 use Rattle.morton.proofs.half_size_at.Goals as goal
 

@@ -1,5 +1,5 @@
 -- `should_refine` meets its contract, test by test. Assumes nothing.
-use Rattle.std.proofs.Common.{true, false, ◌∙◌, rules, le-leb}
+use Rattle.std.proofs.Common.{true, false, ◌∙◌, le-leb}
 use borrow.Author.Tests.{lt-leb}
 use Rattle.morton.proofs.Distance.{near_tested, shallow, at_bound}
 use Rattle.morton.proofs.should_refine.Goals as goal

@@ -1,10 +1,8 @@
 -- `reach` meets its contract: a turn of the loop takes one node more. Assumes nothing.
-use Prim.Native.Nat.{◌-◌, ◌≤◌}
 use native.Mathlib.Omega.{arith}
 use mir.Syntax.{w64}
 use borrow.Kind.Array.{good_length, e_int}
-use borrow.Author.Rules.{rules}
-use Rattle.slabs.proofs.Outermost.{Both, both_one, both_more, both_all}
+use Rattle.slabs.proofs.Outermost.{both_one, both_more, both_all}
 use Rattle.slabs.proofs.reach.Goals as goal
 
 pub loop-i-init : goal.loop-i-init

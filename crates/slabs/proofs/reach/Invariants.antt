@@ -1,10 +1,6 @@
 -- What the loop of `reach` keeps, and how it ends.
 use Prim.Native.Nat.{◌-◌, ◌≤◌}
-use native.Mathlib.Omega.{arith}
-use mir.Syntax.{w64}
-use borrow.Kind.Array.{good_length, e_int}
-use borrow.Author.Rules.{rules}
-use Rattle.slabs.proofs.Outermost.{Both, both_one, both_more, both_all}
+use Rattle.slabs.proofs.Outermost.{Both}
 use Rattle.slabs.proofs.reach.Given as goal
 
 abbrev pub invariant-loop-i : goal.invariant-loop-i

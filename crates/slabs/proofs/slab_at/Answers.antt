@@ -1,5 +1,4 @@
 -- `slab_at` meets its contract. Assumes nothing.
-use borrow.Author.Rules.{rules}
 use Rattle.slabs.proofs.Order.{at_above, at_within}
 use Rattle.slabs.proofs.slab_at.Goals as goal
 

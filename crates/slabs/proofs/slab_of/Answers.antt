@@ -1,6 +1,5 @@
 -- `slab_of` meets its contract: a shift one way or the other. Assumes nothing.
 use native.Mathlib.Omega.{arith}
-use borrow.Author.Rules.{rules}
 use Rattle.morton.proofs.Levels.{level_le}
 use Rattle.slabs.proofs.Order.{height_small, shifted_down, shifted_up}
 use Rattle.slabs.proofs.slab_of.Goals as goal

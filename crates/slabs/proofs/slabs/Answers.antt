@@ -1,6 +1,4 @@
 -- `slabs` meets its contract: a tree that is sound can be trusted. Assumes nothing.
-use borrow.Author.Tests.{not-true, not-false}
-use borrow.Author.Rules.{rules}
 use Rattle.tree.proofs.Pass.{said, denied}
 use Rattle.slabs.proofs.Answering.{slabs_unsound, trusting_slabs}
 use Rattle.slabs.proofs.slabs.Goals as goal

@@ -1,6 +1,5 @@
 -- `slabs_trusting` meets its contract: each case of the dual cell goes on as it says. Assumes nothing.
 use native.Mathlib.Omega.{arith}
-use borrow.Author.Rules.{rules}
 use Rattle.slabs.proofs.Answering.{cell_refused, exponent_refused, cell_reaches}
 use Rattle.slabs.proofs.slabs_trusting.Goals as goal
 

@@ -1,11 +1,10 @@
 -- `clear` meets its contract: a turn writes one place. Assumes nothing.
-use Prim.Native.Nat.{ℕ, ◌-◌, ◌≤◌}
+use Prim.Native.Nat.{ℕ, ◌≤◌}
 use mathlib.Core.Path.{◌≡◌, refl, ap, ◌∙◌}
 use mathlib.Core.List.{List, ◌++◌, append-nil}
 use native.Mathlib.Nat.{le_antisymm}
 use native.Mathlib.Omega.{arith}
 use borrow.Author.Fill.{fill_none, fill_more}
-use borrow.Author.Rules.{rules}
 use lib.ListN.{length, set, drop, replicate, length-set, drop_of_length-le}
 use Rattle.spans.proofs.clear.Goals as goal
 

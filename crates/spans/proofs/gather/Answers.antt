@@ -1,10 +1,7 @@
 -- `gather` meets its contract: a turn of the loop takes one place more. Assumes nothing.
-use Prim.Native.Nat.{◌-◌}
 use mathlib.Core.Path.{sym, ◌∙◌}
-use mathlib.Core.List.{◌++◌}
-use borrow.Author.Rules.{rules}
 use native.Mathlib.Omega.{arith}
-use Rattle.spans.proofs.Gathering.{GatheredTo, gathered_none, word_inside, gathered_more, gathered_all}
+use Rattle.spans.proofs.Gathering.{gathered_none, word_inside, gathered_more, gathered_all}
 use Rattle.spans.proofs.gather.Goals as goal
 
 pub loop-place-init : goal.loop-place-init

@@ -1,10 +1,7 @@
 -- What the loop of `gather` keeps, and how it ends.
 use Prim.Native.Nat.{◌-◌}
-use mathlib.Core.Path.{sym, ◌∙◌}
 use mathlib.Core.List.{◌++◌}
-use borrow.Author.Rules.{rules}
-use native.Mathlib.Omega.{arith}
-use Rattle.spans.proofs.Gathering.{GatheredTo, gathered_none, word_inside, gathered_more, gathered_all}
+use Rattle.spans.proofs.Gathering.{GatheredTo}
 use Rattle.spans.proofs.gather.Given as goal
 
 abbrev pub invariant-loop-place : goal.invariant-loop-place

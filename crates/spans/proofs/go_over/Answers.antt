@@ -2,11 +2,9 @@
 use Prim.Native.Nat.{◌≤◌}
 use mathlib.Core.Path.{refl, sym, ◌∙◌}
 use native.Mathlib.Omega.{arith}
-use borrow.Author.Rules.{rules}
 use lib.Seq.{length-take-le}
-use Rattle.tree.specs.Down.{nodes_of}
-use Rattle.vertices.specs.Cells.{Cells, cells_of}
-use Rattle.spans.proofs.Going.{Going, going_none, going_all, to_go, Sized, at_most, batch_inside, next_fits, going_less, going_more}
+use Rattle.vertices.specs.Cells.{cells_of}
+use Rattle.spans.proofs.Going.{going_none, going_all, Sized, at_most, batch_inside, next_fits, going_less, going_more}
 use Rattle.spans.proofs.go_over.Goals as goal
 
 -- once a batch has come

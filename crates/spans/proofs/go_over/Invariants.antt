@@ -1,12 +1,7 @@
 -- What the loop of `go_over` keeps, and how it ends.
-use Prim.Native.Nat.{◌≤◌}
-use mathlib.Core.Path.{refl, sym, ◌∙◌}
-use native.Mathlib.Omega.{arith}
-use borrow.Author.Rules.{rules}
-use lib.Seq.{length-take-le}
 use Rattle.tree.specs.Down.{nodes_of}
-use Rattle.vertices.specs.Cells.{Cells, cells_of}
-use Rattle.spans.proofs.Going.{Going, going_none, going_all, to_go, Sized, at_most, batch_inside, next_fits, going_less, going_more}
+use Rattle.vertices.specs.Cells.{cells_of}
+use Rattle.spans.proofs.Going.{Going, to_go, Sized}
 use Rattle.spans.proofs.go_over.Given as goal
 
 abbrev pub invariant-loop-came : goal.invariant-loop-came

@@ -1,7 +1,6 @@
 -- `next_from` meets its contract. Assumes nothing.
 use mathlib.Core.Logic.{inl, inr}
 use mathlib.Core.Path.{refl}
-use borrow.Author.Rules.{rules}
 use Rattle.spans.proofs.next_from.Goals as goal
 
 pub overflow_add-result : goal.overflow_add-result

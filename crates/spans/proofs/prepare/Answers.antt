@@ -1,6 +1,5 @@
 -- `prepare` meets its contract. Assumes nothing.
 -- `prepare` meets its contract. Assumes nothing.
-use borrow.Author.Rules.{rules}
 use Rattle.tree.specs.Down.{nodes_of}
 use Rattle.spans.proofs.Finishing.{prepared_at}
 use Rattle.spans.proofs.prepare.Goals as goal

@@ -1,8 +1,6 @@
 -- `put_slabs` meets its contract: a turn of the loop takes four siblings. Assumes nothing.
-use Prim.Native.Nat.{◌-◌}
 use mathlib.Core.Path.{sym, subst}
 use native.Mathlib.Omega.{arith}
-use borrow.Author.Rules.{rules}
 use Rattle.tree.specs.Down.{nodes_of}
 use Rattle.spans.proofs.Slabbing.{SlabsTo, slabs_none, at_room, slabs_more, slabs_put}
 use Rattle.spans.proofs.put_slabs.Goals as goal

@@ -1,10 +1,7 @@
 -- What the loop of `put_slabs` keeps, and how it ends.
 use Prim.Native.Nat.{◌-◌}
-use mathlib.Core.Path.{sym, subst}
-use native.Mathlib.Omega.{arith}
-use borrow.Author.Rules.{rules}
 use Rattle.tree.specs.Down.{nodes_of}
-use Rattle.spans.proofs.Slabbing.{SlabsTo, slabs_none, at_room, slabs_more, slabs_put}
+use Rattle.spans.proofs.Slabbing.{SlabsTo}
 use Rattle.spans.proofs.put_slabs.Given as goal
 
 abbrev pub invariant-loop-place : goal.invariant-loop-place

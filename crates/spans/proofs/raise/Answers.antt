@@ -1,6 +1,5 @@
 -- `raise` meets its contract. Assumes nothing.
 use native.Mathlib.Omega.{arith}
-use borrow.Author.Rules.{rules}
 use Rattle.spans.proofs.Memory.{small_first, small_last, raise_first, raise_last}
 use Rattle.spans.proofs.raise.Goals as goal
 

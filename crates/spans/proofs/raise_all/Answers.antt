@@ -1,8 +1,6 @@
 -- `raise_all` meets its contract: a turn of the loop takes one node more. Assumes nothing.
-use Prim.Native.Nat.{◌+◌, ◌-◌, ◌*◌, ◌≤◌}
+use Prim.Native.Nat.{◌+◌, ◌*◌}
 use native.Mathlib.Omega.{arith}
-use borrow.Author.Rules.{rules}
-use Rattle.spans.specs.Steps.{AllRaised}
 use Rattle.spans.proofs.Entries.{raised_none, words_small, place_room, raised_more, raised_all}
 use Rattle.spans.proofs.raise_all.Goals as goal
 

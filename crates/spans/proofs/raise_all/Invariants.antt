@@ -1,9 +1,6 @@
 -- What the loop of `raise_all` keeps, and how it ends.
-use Prim.Native.Nat.{◌+◌, ◌-◌, ◌*◌, ◌≤◌}
-use native.Mathlib.Omega.{arith}
-use borrow.Author.Rules.{rules}
+use Prim.Native.Nat.{◌-◌, ◌≤◌}
 use Rattle.spans.specs.Steps.{AllRaised}
-use Rattle.spans.proofs.Entries.{raised_none, words_small, place_room, raised_more, raised_all}
 use Rattle.spans.proofs.raise_all.Given as goal
 
 abbrev pub invariant-loop-o : goal.invariant-loop-o

@@ -1,6 +1,5 @@
 -- `raised` meets its contract. Assumes nothing.
 use native.Mathlib.Omega.{arith}
-use borrow.Author.Rules.{rules}
 use Rattle.spans.proofs.Raising.{fits, is_raised}
 use Rattle.spans.proofs.raised.Goals as goal
 

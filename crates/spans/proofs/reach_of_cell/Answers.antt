@@ -1,5 +1,4 @@
 -- `reach_of_cell` meets its contract. Assumes nothing.
-use borrow.Author.Rules.{rules}
 use Rattle.spans.proofs.Yet.{both_fours}
 use Rattle.spans.proofs.reach_of_cell.Goals as goal
 

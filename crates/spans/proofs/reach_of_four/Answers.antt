@@ -1,11 +1,9 @@
 -- `reach_of_four` meets its contract: a turn of the loop takes one node more. Assumes nothing.
-use Prim.Native.Nat.{◌+◌, ◌-◌, ◌≤◌}
+use Prim.Native.Nat.{◌+◌}
 use mathlib.Core.Path.{refl}
 use native.Mathlib.Omega.{arith}
-use borrow.Author.Rules.{rules}
-use Rattle.spans.specs.Steps.{own}
 use Rattle.spans.proofs.Memory.{own_room}
-use Rattle.spans.proofs.Yet.{Reaching, reaching_none, reaching_more, reaching_all}
+use Rattle.spans.proofs.Yet.{reaching_none, reaching_more, reaching_all}
 use Rattle.spans.proofs.reach_of_four.Goals as goal
 
 pub overflow_sub-over : goal.overflow_sub-over

@@ -1,11 +1,7 @@
 -- What the loop of `reach_of_four` keeps, and how it ends.
-use Prim.Native.Nat.{◌+◌, ◌-◌, ◌≤◌}
-use mathlib.Core.Path.{refl}
-use native.Mathlib.Omega.{arith}
-use borrow.Author.Rules.{rules}
+use Prim.Native.Nat.{◌-◌, ◌≤◌}
 use Rattle.spans.specs.Steps.{own}
-use Rattle.spans.proofs.Memory.{own_room}
-use Rattle.spans.proofs.Yet.{Reaching, reaching_none, reaching_more, reaching_all}
+use Rattle.spans.proofs.Yet.{Reaching}
 use Rattle.spans.proofs.reach_of_four.Given as goal
 
 abbrev pub invariant-loop-o : goal.invariant-loop-o

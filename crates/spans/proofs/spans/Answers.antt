@@ -1,6 +1,5 @@
 -- `spans` meets its contract: the spans stand in the first places, where there is room. Assumes nothing.
 use mathlib.Core.Path.{sym}
-use borrow.Author.Rules.{rules}
 use lib.Seq.{length-take-le}
 use Rattle.tree.specs.Down.{nodes_of}
 use Rattle.spans.proofs.Standing.{front_long, says_spans}

@@ -1,5 +1,4 @@
 -- `spans_in` meets its contract: its steps one after another. Assumes nothing.
-use borrow.Author.Rules.{rules}
 use Rattle.tree.specs.Down.{nodes_of}
 use Rattle.spans.proofs.Finishing.{ready_at, same_long, small_words, spans_left}
 use Rattle.spans.proofs.spans_in.Goals as goal

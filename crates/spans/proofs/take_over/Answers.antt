@@ -1,5 +1,4 @@
 -- `take_over` meets its contract. Assumes nothing.
-use borrow.Author.Rules.{rules}
 use Rattle.spans.proofs.Gathering.{takes_leaf, takes_other, takes_none}
 use Rattle.spans.proofs.take_over.Goals as goal
 

@@ -1,10 +1,7 @@
 -- `unpack` meets its contract: a turn of the loop unpacks one leaf more. Assumes nothing.
-use Prim.Native.Nat.{◌-◌, ◌≤◌}
 use mathlib.Core.Path.{refl}
-use borrow.Author.Rules.{rules}
 use native.Mathlib.Omega.{arith}
-use lib.ListN.{length}
-use Rattle.spans.proofs.Unpacking.{UnpackedTo, unpacked_none, upper_small, unpacked_never, unpacked_some, unpacked_all}
+use Rattle.spans.proofs.Unpacking.{unpacked_none, upper_small, unpacked_never, unpacked_some, unpacked_all}
 use Rattle.spans.proofs.unpack.Goals as goal
 
 pub loop-i-init : goal.loop-i-init

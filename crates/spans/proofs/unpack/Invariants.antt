@@ -1,10 +1,7 @@
 -- What the loop of `unpack` keeps, and how it ends.
 use Prim.Native.Nat.{◌-◌, ◌≤◌}
-use mathlib.Core.Path.{refl}
-use borrow.Author.Rules.{rules}
-use native.Mathlib.Omega.{arith}
 use lib.ListN.{length}
-use Rattle.spans.proofs.Unpacking.{UnpackedTo, unpacked_none, upper_small, unpacked_never, unpacked_some, unpacked_all}
+use Rattle.spans.proofs.Unpacking.{UnpackedTo}
 use Rattle.spans.proofs.unpack.Given as goal
 
 abbrev pub invariant-loop-i : goal.invariant-loop-i

@@ -1,10 +1,8 @@
 -- `widen` meets its contract: a turn of the loop takes one cell more. Assumes nothing.
-use Prim.Native.Nat.{◌+◌, ◌-◌, ◌*◌, ◌/◌, ◌≤◌}
+use Prim.Native.Nat.{◌+◌, ◌*◌, ◌≤◌}
 use mathlib.Core.Path.{◌∙◌, sym}
 use native.Mathlib.Omega.{arith}
-use borrow.Author.Rules.{rules}
-use lib.ListN.{length, take}
-use Rattle.spans.specs.Steps.{Widens}
+use lib.ListN.{length}
 use Rattle.spans.proofs.Spanning.{cell_widens, widens_none, widens_more, widens_all}
 use Rattle.spans.proofs.widen.Goals as goal
 

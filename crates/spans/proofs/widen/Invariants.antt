@@ -1,11 +1,7 @@
 -- What the loop of `widen` keeps, and how it ends.
-use Prim.Native.Nat.{◌+◌, ◌-◌, ◌*◌, ◌/◌, ◌≤◌}
-use mathlib.Core.Path.{◌∙◌, sym}
-use native.Mathlib.Omega.{arith}
-use borrow.Author.Rules.{rules}
+use Prim.Native.Nat.{◌-◌, ◌*◌, ◌/◌, ◌≤◌}
 use lib.ListN.{length, take}
 use Rattle.spans.specs.Steps.{Widens}
-use Rattle.spans.proofs.Spanning.{cell_widens, widens_none, widens_more, widens_all}
 use Rattle.spans.proofs.widen.Given as goal
 
 abbrev pub invariant-loop-at : goal.invariant-loop-at

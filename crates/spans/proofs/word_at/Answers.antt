@@ -1,6 +1,5 @@
 -- `word_at` meets its contract. Assumes nothing.
 use mathlib.Core.Path.{sym}
-use borrow.Author.Rules.{rules}
 use Rattle.spans.proofs.Memory.{in_first, in_last}
 use Rattle.spans.proofs.word_at.Goals as goal
 

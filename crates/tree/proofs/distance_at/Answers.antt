@@ -1,7 +1,6 @@
 -- `distance_at` meets its contract. Assumes nothing.
 use mathlib.Core.Path.{sym}
 use native.Mathlib.Omega.{arith}
-use borrow.Author.Rules.{rules}
 use lib.Ieee.{nan, of_bits, binary32}
 use lib.ListN.{get_or-eq_default}
 use Rattle.tree.proofs.Lists.{get_d_inside}

@@ -1,10 +1,6 @@
 -- `eight_at` meets its contract. Assumes nothing.
-use Prim.Native.Nat.{ℕ, ◌+◌, ◌-◌, ◌≤◌, ◌<◌}
-use mathlib.Core.Path.{◌≡◌}
 use native.Mathlib.Omega.{arith}
-use borrow.Author.Rules.{rules}
 use borrow.Author.Count.{below_more}
-use lib.ListN.{length, get_or}
 use Rattle.tree.proofs.eight_at.Goals as goal
 
 pub overflow_sub-keys : goal.overflow_sub-keys

@@ -1,9 +1,6 @@
 -- What the loop of `eight_at` keeps, and how it ends.
 use Prim.Native.Nat.{ℕ, ◌+◌, ◌-◌, ◌≤◌, ◌<◌}
 use mathlib.Core.Path.{◌≡◌}
-use native.Mathlib.Omega.{arith}
-use borrow.Author.Rules.{rules}
-use borrow.Author.Count.{below_more}
 use lib.ListN.{length, get_or}
 use Rattle.tree.proofs.eight_at.Given as goal
 

@@ -4,11 +4,8 @@ use native.Mathlib.Nat.{div-le_self}
 use mathlib.Core.Path.{refl, sym, ◌∙◌}
 use mathlib.Core.Logic.{inl, inr}
 use native.Mathlib.Omega.{arith}
-use borrow.Author.Rules.{rules}
-use borrow.Author.Tests.{not-true, not-false}
-use Rattle.tree.specs.Down.{nodes_of}
 use Rattle.tree.proofs.Down.{leads_in}
-use Rattle.tree.proofs.Finding.{Going, going_none, going_more, going_stop, going_end, shifted}
+use Rattle.tree.proofs.Finding.{going_none, going_more, going_stop, going_end, shifted}
 use Rattle.tree.proofs.go_down.Goals as goal
 
 pub returns-then-level-gt-DEEPEST : goal.returns-then-level-gt-DEEPEST

@@ -1,14 +1,7 @@
 -- What the loop of `go_down` keeps, and how it ends.
-use Prim.Native.Nat.{◌-◌, ◌*◌, ◌^◌}
-use native.Mathlib.Nat.{div-le_self}
-use mathlib.Core.Path.{refl, sym, ◌∙◌}
-use mathlib.Core.Logic.{inl, inr}
-use native.Mathlib.Omega.{arith}
-use borrow.Author.Rules.{rules}
-use borrow.Author.Tests.{not-true, not-false}
+use Prim.Native.Nat.{◌-◌}
 use Rattle.tree.specs.Down.{nodes_of}
-use Rattle.tree.proofs.Down.{leads_in}
-use Rattle.tree.proofs.Finding.{Going, going_none, going_more, going_stop, going_end, shifted}
+use Rattle.tree.proofs.Finding.{Going}
 use Rattle.tree.proofs.go_down.Given as goal
 
 abbrev pub invariant-loop-l : goal.invariant-loop-l

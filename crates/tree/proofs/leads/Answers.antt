@@ -1,7 +1,6 @@
 -- `leads` meets its contract. Assumes nothing.
 use mathlib.Core.Path.{sym}
 use native.Mathlib.Omega.{arith}
-use borrow.Author.Rules.{rules}
 use Rattle.tree.proofs.Down.{leads_none, leads_past, leads_key}
 use Rattle.tree.proofs.leads.Goals as goal
 

@@ -1,11 +1,9 @@
 -- `look_up` meets its contract. Assumes nothing.
 use mathlib.Core.Path.{refl, sym, subst}
 use mathlib.Core.Logic.{inl}
-use borrow.Author.Tests.{not-true, not-false}
 use Rattle.tree.specs.Climb.{LookupSays}
 use Rattle.tree.proofs.Pass.{said, denied}
 use Rattle.tree.proofs.Finding.{trusting_lookup}
-use borrow.Author.Rules.{rules}
 use Rattle.tree.proofs.look_up.Goals as goal
 
 pub returns-then-not-sound : goal.returns-then-not-sound

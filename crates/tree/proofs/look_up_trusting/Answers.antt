@@ -1,8 +1,6 @@
 -- `look_up_trusting` meets its contract. Assumes nothing.
 use mathlib.Core.Path.{sym, ◌∙◌}
 use native.Mathlib.Omega.{arith}
-use borrow.Author.Rules.{rules}
-use borrow.Author.Tests.{not-true, not-false}
 use Rattle.morton.proofs.Levels.{level_le}
 use Rattle.tree.proofs.Finding.{shifted, says_deep, found_at, nothing_at, trusting_refuses}
 use Rattle.tree.proofs.look_up_trusting.Goals as goal

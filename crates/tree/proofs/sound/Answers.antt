@@ -1,12 +1,8 @@
 -- `sound` meets its contract: `Seen` is what the pass has shown. Assumes nothing.
-use Rattle.tree.proofs.Pass.{Seen, seen_none, seen_more, after_split, after_leaf, accepted, all_eight, not_too_deep, leaf_next, first_here, first_none, no_more_keys, no_more_leaves, said, denied, cell_fits, cell_below}
-use Prim.Native.Nat.{◌-◌}
+use Rattle.tree.proofs.Pass.{seen_none, seen_more, after_split, after_leaf, accepted, all_eight, not_too_deep, leaf_next, first_here, first_none, no_more_keys, no_more_leaves, said, denied, cell_fits, cell_below}
 use mathlib.Core.Path.{sym, ◌∙◌}
 use mathlib.Core.Bool.{true≢false}
 use native.Mathlib.Omega.{arith}
-use borrow.Author.Rules.{rules}
-use borrow.Author.Tests.{not-true, not-false}
-use lib.ListN.{length}
 use Rattle.tree.proofs.sound.Goals as goal
 
 pub loop-i-init : goal.loop-i-init

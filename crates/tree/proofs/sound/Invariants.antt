@@ -1,11 +1,6 @@
 -- What the loop of `sound` keeps, and how it ends.
-use Rattle.tree.proofs.Pass.{Seen, seen_none, seen_more, after_split, after_leaf, accepted, all_eight, not_too_deep, leaf_next, first_here, first_none, no_more_keys, no_more_leaves, said, denied, cell_fits, cell_below}
+use Rattle.tree.proofs.Pass.{Seen}
 use Prim.Native.Nat.{◌-◌}
-use mathlib.Core.Path.{sym, ◌∙◌}
-use mathlib.Core.Bool.{true≢false}
-use native.Mathlib.Omega.{arith}
-use borrow.Author.Rules.{rules}
-use borrow.Author.Tests.{not-true, not-false}
 use lib.ListN.{length}
 use Rattle.tree.proofs.sound.Given as goal
 

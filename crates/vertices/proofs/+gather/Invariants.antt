@@ -1,14 +1,10 @@
 -- What the loop of `+gather` keeps, and how it ends.
-use Prim.Native.Nat.{ℕ, ◌-◌, ◌≤◌, ◌<◌}
-use mathlib.Core.Path.{◌≡◌, refl, ◌∙◌}
-use native.Mathlib.Omega.{arith}
-use borrow.Author.Rules.{rules}
+use Prim.Native.Nat.{◌-◌, ◌≤◌}
+use mathlib.Core.Path.{◌≡◌}
 use lib.ListN.{length}
 use Rattle.tree.specs.Down.{nodes_of}
-use Rattle.tree.proofs.Pass.{said, denied}
 use Rattle.vertices.specs.Cells.{cells_of}
-use Rattle.vertices.proofs.Blocks.{here_small, here_near, here_bound, here_child, step_on, child_still, child_divided, meets_is, place_is}
-use Rattle.vertices.proofs.Storing.{Partly, partly_none, partly_more, partly_all, grown_skipped, grown_none, grown_taken, grown_deep, grown_on, stored_room, unskipped}
+use Rattle.vertices.proofs.Storing.{Partly}
 use Rattle.vertices.proofs.+gather.Given as goal
 
 abbrev pub invariant-loop-q : goal.invariant-loop-q

@@ -1,5 +1,4 @@
 -- `cells_trusting` meets its contract: up to so many as all three tables have room for. Assumes nothing.
-use borrow.Author.Rules.{rules}
 use Rattle.vertices.proofs.Storing.{room_is, cells_says}
 use Rattle.vertices.proofs.cells_trusting.Goals as goal
 

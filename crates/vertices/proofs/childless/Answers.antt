@@ -1,12 +1,9 @@
 -- `childless` meets its contract: what is or-ed to 0 is 0. Assumes nothing.
-use Prim.Native.Nat.{ℕ, ◌+◌, ◌-◌, ◌≤◌, ◌<◌}
-use mathlib.Core.Path.{◌≡◌, sym}
+use mathlib.Core.Path.{sym}
 use mathlib.Core.Bool.{true≢false}
 use native.Mathlib.Omega.{arith}
-use borrow.Author.Rules.{rules}
 use borrow.Author.Count.{below_more}
 use borrow.Author.Tests.{eqb-true}
-use lib.ListN.{length, get_or}
 use Rattle.vertices.proofs.Places.{or_none}
 use Rattle.vertices.proofs.childless.Goals as goal
 

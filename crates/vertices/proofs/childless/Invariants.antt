@@ -1,13 +1,7 @@
 -- What the loop of `childless` keeps, and how it ends.
 use Prim.Native.Nat.{ℕ, ◌+◌, ◌-◌, ◌≤◌, ◌<◌}
-use mathlib.Core.Path.{◌≡◌, sym}
-use mathlib.Core.Bool.{true≢false}
-use native.Mathlib.Omega.{arith}
-use borrow.Author.Rules.{rules}
-use borrow.Author.Count.{below_more}
-use borrow.Author.Tests.{eqb-true}
+use mathlib.Core.Path.{◌≡◌}
 use lib.ListN.{length, get_or}
-use Rattle.vertices.proofs.Places.{or_none}
 use Rattle.vertices.proofs.childless.Given as goal
 
 abbrev pub invariant-loop-w : goal.invariant-loop-w

@@ -1,7 +1,6 @@
 -- `from_root` meets its contract: the root's block, by whether the root is split. Assumes nothing.
 use mathlib.Core.Path.{sym, ◌∙◌}
 use native.Mathlib.Omega.{arith}
-use borrow.Author.Rules.{rules}
 use Rattle.tree.specs.Down.{nodes_of}
 use Rattle.vertices.proofs.Root.{root_here, root_alone, root_walked}
 use Rattle.vertices.proofs.from_root.Goals as goal

@@ -1,6 +1,5 @@
 -- `kept_by` meets its contract: each choice is the place of the table. Assumes nothing.
 use mathlib.Core.Path.{sym, ap}
-use borrow.Author.Rules.{rules}
 use Rattle.vertices.specs.Block.{kept_by}
 use Rattle.vertices.proofs.Glance.{past_four, last_of_eight}
 use Rattle.vertices.proofs.kept_by.Goals as goal

@@ -1,8 +1,6 @@
 -- `list` meets its contract: refused if the tree is not sound, else the list of one who trusts. Assumes nothing.
 use mathlib.Core.Path.{refl}
-use borrow.Author.Rules.{rules}
 use mathlib.Core.Logic.{inl}
-use borrow.Author.Tests.{not-true, not-false}
 use Rattle.tree.proofs.Pass.{said, denied}
 use Rattle.vertices.proofs.Law.{trusting_list}
 use Rattle.vertices.proofs.list.Goals as goal

@@ -2,7 +2,6 @@
 use Prim.Native.Nat.{ℕ, ◌+◌, ◌≤◌}
 use mathlib.Core.Path.{subst}
 use native.Mathlib.Omega.{arith}
-use borrow.Author.Rules.{rules}
 use Rattle.tree.specs.Down.{nodes_of}
 use Rattle.tree.specs.Tree.{Decides}
 use Rattle.tree.proofs.Pass.{said}

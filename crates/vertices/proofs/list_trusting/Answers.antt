@@ -1,8 +1,6 @@
 -- `list_trusting` meets its contract: written where there is room. Assumes nothing.
 use mathlib.Core.Path.{refl}
 use native.Mathlib.Omega.{arith}
-use borrow.Author.Rules.{rules}
-use borrow.Author.Tests.{not-true, not-false}
 use Rattle.tree.proofs.Pass.{said, denied}
 use Rattle.vertices.proofs.Root.{wrote}
 use Rattle.vertices.proofs.list_trusting.Goals as goal

@@ -1,5 +1,4 @@
 -- `low_corner` meets its contract: the cell moved up is its low corner, and nothing is lost. Assumes nothing.
-use borrow.Author.Rules.{rules}
 use Rattle.vertices.proofs.Blocks.{shift_cell}
 use Rattle.vertices.proofs.low_corner.Goals as goal
 

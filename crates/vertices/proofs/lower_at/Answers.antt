@@ -1,9 +1,7 @@
 -- `lower_at` meets its contract: a turn adds the place of one entry. Assumes nothing.
-use Prim.Native.Nat.{ℕ, ◌-◌, ◌≤◌, ◌<◌}
-use mathlib.Core.Path.{◌≡◌, refl, sym, ◌∙◌}
+use mathlib.Core.Path.{refl, sym, ◌∙◌}
 use native.Mathlib.Omega.{arith}
-use borrow.Author.Rules.{rules}
-use lib.ListN.{length, get_or, length-set}
+use lib.ListN.{length-set}
 use Rattle.vertices.specs.Block.{lowered_at}
 use Rattle.vertices.proofs.Blocks.{filled_more}
 use Rattle.vertices.proofs.Places.{at_is}

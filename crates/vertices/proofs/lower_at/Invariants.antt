@@ -1,12 +1,8 @@
 -- What the loop of `lower_at` keeps, and how it ends.
 use Prim.Native.Nat.{ℕ, ◌-◌, ◌≤◌, ◌<◌}
-use mathlib.Core.Path.{◌≡◌, refl, sym, ◌∙◌}
-use native.Mathlib.Omega.{arith}
-use borrow.Author.Rules.{rules}
-use lib.ListN.{length, get_or, length-set}
+use mathlib.Core.Path.{◌≡◌}
+use lib.ListN.{length, get_or}
 use Rattle.vertices.specs.Block.{lowered_at}
-use Rattle.vertices.proofs.Blocks.{filled_more}
-use Rattle.vertices.proofs.Places.{at_is}
 use Rattle.vertices.proofs.lower_at.Given as goal
 
 abbrev pub invariant-loop-o : goal.invariant-loop-o

@@ -1,20 +1,18 @@
 -- `lower_mask` meets its contract: a turn adds the bit of one offset. Assumes nothing.
-use Prim.Native.Nat.{◌-◌, ◌≤◌}
 use mathlib.Core.Path.{◌≡◌, sym, ◌∙◌}
 use mathlib.Core.Bool.{true, true≢false}
 use native.Mathlib.Omega.{arith}
-use borrow.Author.Rules.{rules}
 use Rattle.geometry.proofs.Offsets.{kept_lt, flip_lt}
 use Rattle.vertices.specs.Block.{lowered_mark}
-use Rattle.vertices.proofs.Marks.{marked_zero, Filled, filled_none, filled_yes, filled_no, filled_fits, is_lowered, filled_lowered}
+use Rattle.vertices.proofs.Marks.{marked_zero, filled_none, filled_yes, filled_no, filled_fits, is_lowered, filled_lowered}
 use Rattle.vertices.proofs.lower_mask.Goals as goal
 
 pub returns-then-seen-eq0 : goal.returns-then-seen-eq0
 returns-then-seen-eq0 c =
     record {
-  small = omega arith;
-  marks = λ o h. marked_zero o ∙ sym (c.seen.ensures c.if-seen-eq0.true o h);
-}
+      small = omega arith;
+      marks = λ o h. marked_zero o ∙ sym (c.seen.ensures c.if-seen-eq0.true o h);
+    }
 
 pub loop-o-init : goal.loop-o-init
 loop-o-init c = (omega arith, filled_none _)

@@ -1,12 +1,9 @@
 -- What the loop of `lower_mask` keeps, and how it ends.
 use Prim.Native.Nat.{◌-◌, ◌≤◌}
-use mathlib.Core.Path.{◌≡◌, sym, ◌∙◌}
-use mathlib.Core.Bool.{true, true≢false}
-use native.Mathlib.Omega.{arith}
-use borrow.Author.Rules.{rules}
-use Rattle.geometry.proofs.Offsets.{kept_lt, flip_lt}
+use mathlib.Core.Path.{◌≡◌}
+use mathlib.Core.Bool.{true}
 use Rattle.vertices.specs.Block.{lowered_mark}
-use Rattle.vertices.proofs.Marks.{marked_zero, Filled, filled_none, filled_yes, filled_no, filled_fits, is_lowered, filled_lowered}
+use Rattle.vertices.proofs.Marks.{Filled}
 use Rattle.vertices.proofs.lower_mask.Given as goal
 
 abbrev pub invariant-loop-o : goal.invariant-loop-o

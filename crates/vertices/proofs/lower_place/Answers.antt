@@ -2,7 +2,6 @@
 use Prim.Native.Nat.{◌-◌}
 use mathlib.Core.Path.{sym, ◌∙◌}
 use native.Mathlib.Omega.{arith}
-use borrow.Author.Rules.{rules}
 use lib.Bits.{bit_and}
 use Rattle.geometry.proofs.Offsets.{kept_lt, flip_lt}
 use Rattle.vertices.proofs.Blocks.{lowered_is}

@@ -1,7 +1,6 @@
 -- `most_vertices` meets its contract. Assumes nothing.
 use mathlib.Core.Path.{refl}
 use native.Mathlib.Omega.{arith}
-use borrow.Author.Rules.{rules}
 use Rattle.vertices.specs.Walk.{most_of}
 use Rattle.vertices.proofs.most_vertices.Goals as goal
 

@@ -1,6 +1,5 @@
 -- `passed` meets its contract: the number's own cell of the level lies behind. Assumes nothing.
 use mathlib.Core.Path.{refl}
-use borrow.Author.Rules.{rules}
 use Rattle.vertices.proofs.Places.{passed_lt}
 use Rattle.vertices.proofs.passed.Goals as goal
 

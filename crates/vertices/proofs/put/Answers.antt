@@ -1,6 +1,5 @@
 -- `put` meets its contract: both tables have the place, or nothing is said of them. Assumes nothing.
 use native.Mathlib.Omega.{arith}
-use borrow.Author.Rules.{rules}
 use Rattle.vertices.proofs.put.Goals as goal
 
 pub returns-else-at-levels : goal.returns-else-at-levels

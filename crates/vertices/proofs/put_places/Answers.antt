@@ -1,11 +1,10 @@
 -- `put_places` meets its contract: a turn writes the place of one entry. Assumes nothing.
-use Prim.Native.Nat.{◌*◌, ◌-◌, ◌≤◌}
-use mathlib.Core.Path.{◌≡◌, refl}
+use Prim.Native.Nat.{◌*◌}
+use mathlib.Core.Path.{refl}
 use native.Mathlib.Omega.{arith}
-use borrow.Author.Rules.{rules}
-use lib.ListN.{length, length-set}
+use lib.ListN.{length-set}
 use Rattle.vertices.specs.Block.{lowered_place}
-use Rattle.vertices.proofs.Places.{Written, written_none, written_more, written_all}
+use Rattle.vertices.proofs.Places.{written_none, written_more, written_all}
 use Rattle.vertices.proofs.put_places.Goals as goal
 
 pub loop-o-init : goal.loop-o-init

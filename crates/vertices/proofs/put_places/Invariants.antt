@@ -1,11 +1,9 @@
 -- What the loop of `put_places` keeps, and how it ends.
 use Prim.Native.Nat.{◌*◌, ◌-◌, ◌≤◌}
-use mathlib.Core.Path.{◌≡◌, refl}
-use native.Mathlib.Omega.{arith}
-use borrow.Author.Rules.{rules}
-use lib.ListN.{length, length-set}
+use mathlib.Core.Path.{◌≡◌}
+use lib.ListN.{length}
 use Rattle.vertices.specs.Block.{lowered_place}
-use Rattle.vertices.proofs.Places.{Written, written_none, written_more, written_all}
+use Rattle.vertices.proofs.Places.{Written}
 use Rattle.vertices.proofs.put_places.Given as goal
 
 abbrev pub invariant-loop-o : goal.invariant-loop-o

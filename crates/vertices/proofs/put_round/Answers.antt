@@ -1,6 +1,5 @@
 -- `put_round` meets its contract. Assumes nothing.
 use native.Mathlib.Omega.{arith}
-use borrow.Author.Rules.{rules}
 use Rattle.vertices.proofs.put_round.Goals as goal
 
 pub put_places-requires : goal.put_places-requires

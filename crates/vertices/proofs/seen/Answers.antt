@@ -1,5 +1,4 @@
 -- `seen` meets its contract, by the rule of its table. Assumes nothing.
-use borrow.Author.Rules.{rules}
 use Rattle.vertices.proofs.Glance.{seen_says}
 use Rattle.vertices.proofs.seen.Goals as goal
 

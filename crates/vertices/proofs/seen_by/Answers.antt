@@ -1,6 +1,5 @@
 -- `seen_by` meets its contract: each choice is the place of the table. Assumes nothing.
 use mathlib.Core.Path.{sym, ap}
-use borrow.Author.Rules.{rules}
 use Rattle.vertices.specs.Block.{seen_by}
 use Rattle.vertices.proofs.Glance.{past_four, last_of_eight}
 use Rattle.vertices.proofs.seen_by.Goals as goal

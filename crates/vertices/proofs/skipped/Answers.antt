@@ -2,7 +2,6 @@
 use mathlib.Core.Logic.{◌⊎◌, inl, inr, ⊎_elim}
 use mathlib.Core.Bool.{Bool, true, false}
 use native.Mathlib.Omega.{arith}
-use borrow.Author.Rules.{rules}
 use Rattle.tree.specs.Tree.{Decides}
 use Rattle.vertices.proofs.skipped.Goals as goal
 

@@ -1,10 +1,8 @@
 -- `split_below` meets its contract: a turn puts eight bits over those before. Assumes nothing.
-use Prim.Native.Nat.{ℕ, ◌-◌, ◌^◌, ◌≤◌, ◌<◌}
+use Prim.Native.Nat.{ℕ, ◌^◌, ◌<◌}
 use mathlib.Core.Path.{sym, ◌∙◌, subst}
 use native.Mathlib.Omega.{arith}
-use borrow.Author.Rules.{rules}
-use Rattle.tree.specs.Down.{nodes_of}
-use Rattle.vertices.proofs.Marks.{marks_as, Stacked, stacked_none, stacked_yes, stacked_no, stacked_fits, stacked_all}
+use Rattle.vertices.proofs.Marks.{marks_as, stacked_none, stacked_yes, stacked_no, stacked_fits, stacked_all}
 use Rattle.vertices.proofs.split_below.Goals as goal
 
 pub loop-o-init : goal.loop-o-init

@@ -1,10 +1,7 @@
 -- What the loop of `split_below` keeps, and how it ends.
-use Prim.Native.Nat.{ℕ, ◌-◌, ◌^◌, ◌≤◌, ◌<◌}
-use mathlib.Core.Path.{sym, ◌∙◌, subst}
-use native.Mathlib.Omega.{arith}
-use borrow.Author.Rules.{rules}
+use Prim.Native.Nat.{◌-◌, ◌≤◌}
 use Rattle.tree.specs.Down.{nodes_of}
-use Rattle.vertices.proofs.Marks.{marks_as, Stacked, stacked_none, stacked_yes, stacked_no, stacked_fits, stacked_all}
+use Rattle.vertices.proofs.Marks.{Stacked}
 use Rattle.vertices.proofs.split_below.Given as goal
 
 abbrev pub invariant-loop-o : goal.invariant-loop-o

@@ -1,11 +1,8 @@
 -- `split_children` meets its contract: a turn asks of one child. Assumes nothing.
-use Prim.Native.Nat.{◌-◌, ◌≤◌}
 use mathlib.Core.Path.{sym, ◌∙◌}
 use mathlib.Core.Bool.{true≢false}
 use native.Mathlib.Omega.{arith}
-use borrow.Author.Rules.{rules}
-use Rattle.tree.specs.Down.{nodes_of}
-use Rattle.vertices.proofs.Marks.{Filled, filled_none, filled_yes, filled_no, filled_fits, Steps, steps_is, told_none, told_all}
+use Rattle.vertices.proofs.Marks.{filled_none, filled_yes, filled_no, filled_fits, steps_is, told_none, told_all}
 use Rattle.vertices.proofs.Places.{first_is, is_first}
 use Rattle.vertices.proofs.split_children.Goals as goal
 

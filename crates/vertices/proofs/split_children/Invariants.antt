@@ -1,12 +1,7 @@
 -- What the loop of `split_children` keeps, and how it ends.
 use Prim.Native.Nat.{◌-◌, ◌≤◌}
-use mathlib.Core.Path.{sym, ◌∙◌}
-use mathlib.Core.Bool.{true≢false}
-use native.Mathlib.Omega.{arith}
-use borrow.Author.Rules.{rules}
 use Rattle.tree.specs.Down.{nodes_of}
-use Rattle.vertices.proofs.Marks.{Filled, filled_none, filled_yes, filled_no, filled_fits, Steps, steps_is, told_none, told_all}
-use Rattle.vertices.proofs.Places.{first_is, is_first}
+use Rattle.vertices.proofs.Marks.{Filled, Steps}
 use Rattle.vertices.proofs.split_children.Given as goal
 
 abbrev pub invariant-loop-w : goal.invariant-loop-w

@@ -1,5 +1,4 @@
 -- `touched` meets its contract, by the rule of its table. Assumes nothing.
-use borrow.Author.Rules.{rules}
 use Rattle.vertices.proofs.Glance.{touched_none, touched_yes}
 use Rattle.vertices.proofs.touched.Goals as goal
 

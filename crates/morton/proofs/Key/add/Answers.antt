@@ -1,5 +1,5 @@
 -- `Key::add` meets its contract: three words, one for each field. Assumes nothing.
-use Rattle.std.proofs.Common.{arith, rules}
+use Rattle.std.proofs.Common.{arith}
 use Rattle.morton.proofs.Dilated.{add_words}
 use Rattle.morton.proofs.Key.add.Goals as goal
 

@@ -1,6 +1,5 @@
 -- `Key::centre` meets its contract: it is refused, or the extent has it. Assumes nothing.
-use borrow.Author.Tests.{not-true, not-false}
-use Rattle.std.proofs.Common.{sym, refl, ◌∙◌, rules}
+use Rattle.std.proofs.Common.{sym, refl, ◌∙◌}
 use Rattle.morton.proofs.Key.centre.Goals as goal
 
 pub returns-then-not-is_cell : goal.returns-then-not-is_cell

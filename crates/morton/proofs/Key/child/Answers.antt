@@ -1,7 +1,6 @@
 -- `Key::child` meets its contract. Assumes nothing.
 use mathlib.Core.Bool.{not}
-use Rattle.std.proofs.Common.{◌≡◌, true, sym, ap, ◌∙◌, rules, eq-eqb, ne_eqb}
-use borrow.Author.Tests.{not-false}
+use Rattle.std.proofs.Common.{◌≡◌, true, sym, ap, ◌∙◌, eq-eqb, ne_eqb}
 use Rattle.morton.specs.Answers.{the_key}
 use Rattle.morton.specs.Level.{deepest, level, is_cell}
 use Rattle.morton.proofs.Levels.{level_le, above_deepest, child_code}

@@ -5,7 +5,7 @@ use Rattle.morton.specs.Field.{third}
 use Rattle.morton.specs.Exact.{Exactly}
 use Rattle.morton.specs.Answers.{OnAxis}
 use lib.Ieee.{Float}
-use Rattle.std.proofs.Common.{◌≡◌, ℕ, ◌+◌, ◌*◌, ◌/◌, ◌^◌, ◌≤◌, sym, refl, subst, div-one, rules}
+use Rattle.std.proofs.Common.{◌≡◌, ℕ, ◌+◌, ◌*◌, ◌/◌, ◌^◌, ◌≤◌, sym, refl, subst, div-one}
 use Rattle.morton.proofs.Key.extent.Goals as goal
 
 deep : (n l : ℕ) → l ≡ level n → l ≤ deepest

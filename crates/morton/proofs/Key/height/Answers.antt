@@ -1,5 +1,5 @@
 -- `Key::height` meets its contract: z begins at bit 2. Assumes nothing.
-use Rattle.std.proofs.Common.{ℕ, ◌/◌, ap, ◌∙◌, arith, rules}
+use Rattle.std.proofs.Common.{ℕ, ◌/◌, ap, ◌∙◌, arith}
 use Rattle.morton.specs.Field.{third}
 use Rattle.morton.proofs.Levels.{level_le}
 use Rattle.morton.proofs.Key.height.Goals as goal

@@ -1,5 +1,5 @@
 -- `Key::is_cell` meets its contract: the leading one stands at bit 3L. Assumes nothing.
-use Rattle.std.proofs.Common.{arith, rules}
+use Rattle.std.proofs.Common.{arith}
 use Rattle.morton.proofs.Levels.{level_le, is_cell_code}
 use Rattle.morton.proofs.Key.is_cell.Goals as goal
 

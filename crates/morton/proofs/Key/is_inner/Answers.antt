@@ -1,5 +1,5 @@
 -- `Key::is_inner` meets its contract. Assumes nothing.
-use Rattle.std.proofs.Common.{sym, ◌∙◌, arith, rules}
+use Rattle.std.proofs.Common.{sym, ◌∙◌, arith}
 use Rattle.morton.proofs.Vertices.{inner_shallow, inner_deep, inner_low, inner_code}
 use Rattle.morton.proofs.Key.is_inner.Goals as goal
 

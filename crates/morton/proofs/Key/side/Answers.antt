@@ -1,6 +1,6 @@
 -- `Key::side` meets its contract. Assumes nothing.
 -- what the test gave
-use Rattle.std.proofs.Common.{◌≡◌, ℕ, ◌/◌, ◌≤◌, false, not, sym, ap, ◌∙◌, arith, rules, le-ltb, lt-ltb}
+use Rattle.std.proofs.Common.{◌≡◌, ℕ, ◌/◌, ◌≤◌, false, not, sym, ap, ◌∙◌, arith, le-ltb, lt-ltb}
 use borrow.Author.Tests.{not-false}
 use Rattle.morton.specs.Answers.{the_key}
 use Rattle.morton.specs.Field.{sub}

@@ -1,5 +1,5 @@
 -- `Key::sub` meets its contract: three words, one for each field. Assumes nothing.
-use Rattle.std.proofs.Common.{arith, rules}
+use Rattle.std.proofs.Common.{arith}
 use Rattle.morton.proofs.Dilated.{sub_words}
 use Rattle.morton.proofs.Key.sub.Goals as goal
 

@@ -1,6 +1,6 @@
 -- `Key::vertex` meets its contract. Assumes nothing.
 -- past the refusals: t is what `is_cell` answered, l what `level` did
-use Rattle.std.proofs.Common.{◌≡◌, ℕ, ◌-◌, ◌*◌, ◌%◌, ◌^◌, ◌≤◌, Bool, true, false, not, sym, ap, ◌∙◌, subst, arith, rules, eq-eqb, ne_eqb}
+use Rattle.std.proofs.Common.{◌≡◌, ℕ, ◌-◌, ◌*◌, ◌%◌, ◌^◌, ◌≤◌, Bool, true, false, not, sym, ap, ◌∙◌, subst, arith, eq-eqb, ne_eqb}
 use borrow.Author.Tests.{not-false}
 use Rattle.morton.specs.declared.KeyAnswer.{KeyAnswer}
 use Rattle.morton.specs.Answers.{the_key, vertex_answer}
