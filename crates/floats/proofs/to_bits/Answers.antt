@@ -12,5 +12,6 @@ returns-then-d c = unequal_nan c.args.d c.if-d.true
 pub float_to_bits-result : goal.float_to_bits-result
 float_to_bits-result c = equal_no_nan c.args.d c.if-d.false
 
+-- `.good` says of an `f32` parameter that the format holds it
 pub returns : goal.returns
 returns c = (refl, of_bits-to_bits binary32 c.args.d (subst T (sym c.well_formed.0.1) tt))

@@ -5,6 +5,7 @@ use native.Mathlib.Omega.{arith}
 use Rattle.tree.specs.Tree.{Decides}
 use Rattle.vertices.proofs.skipped.Goals as goal
 
+-- one of two, the second of which does not hold
 first_of : (P Q : Type 0) (r : Bool) → (Q → ⊥) → Decides r P → Decides r (P ⊎ Q)
 first_of P Q true n d = inl d
 first_of P Q false n d = ⊎_elim d n

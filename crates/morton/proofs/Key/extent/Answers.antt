@@ -11,6 +11,7 @@ use Rattle.morton.proofs.Key.extent.Goals as goal
 deep : (n l : ℕ) → l ≡ level n → l ≤ deepest
 deep n l e = subst (λ (x : ℕ). x ≤ deepest) (sym e) (level_le n)
 
+-- from the call's level and number to the key's
 on : (n l m a : ℕ) (x : Float) → l ≡ level n → m ≡ n / 2 ^ a → Exactly x (2 * third l m + 1) (2 ^ (l + 1)) → OnAxis n a x
 on n l m a x e f h =
     subst (λ (k : ℕ). Exactly x (2 * third k (n / 2 ^ a) + 1) (2 ^ (k + 1))) e

@@ -9,6 +9,7 @@ use Rattle.morton.proofs.Refusals.{given, passed}
 use Rattle.morton.proofs.Vertices.{up_pow, inner_level}
 use Rattle.morton.proofs.Key.side.Goals as goal
 
+-- what the test gave
 shallow : (L v : ℕ) (t : _) → t ≡ is_inner L v → not t ≡ false → L ≤ 20
 shallow L v t e f = (inner_level L v (sym e ∙ not-false t f)).1
 

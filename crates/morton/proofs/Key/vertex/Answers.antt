@@ -12,6 +12,7 @@ use Rattle.morton.proofs.Refusals.{given, passed, no_cell, no_eighth, eighth_pas
 use Rattle.morton.proofs.Vertices.{vertex_deep, vertex_none, vertex_code}
 use Rattle.morton.proofs.Key.vertex.Goals as goal
 
+-- past the refusals: t is what `is_cell` answered, l what `level` did
 module _ (n L w l : ℕ) (t : Bool) (e : t ≡ is_cell n) (f : not t ≡ false) (few : w ≤ 7) (g : l ≡ level n) (own : l ≡ L) where
   accepted : {a : KeyAnswer} → a ≡ the_key (vertex_of L n w) → a ≡ vertex_answer n L w
   accepted h =
