@@ -1,6 +1,6 @@
 #![tactic(auto)]
 // The boundary for hosts, keys: numbers only. include/mittenhelm.h declares each function for C.
-ghost use Rattle.std.specs.Prelude.{◌≡◌, ◌&&◌, leb};
+ghost use Rattle.std.specs.Prelude.{◌≡◌, ◌&&◌, nat_le};
 ghost use Rattle.morton.specs.Answers.{child_of, vertex_answer, side_answer};
 ghost use Rattle.morton.specs.Field.{add, sub};
 ghost use Rattle.morton.specs.Level.{deepest, level, is_cell, parent_of};
@@ -23,50 +23,43 @@ fn hand_key(answer: KeyAnswer, out: &mut u64) -> u32
     }
 }
 
-#[unsafe(no_mangle)]
-pub extern "C" fn mittenhelm_level(key: u64) -> u32
+pub fn mittenhelm_level(key: u64) -> u32
     ensures { result ≡ level key }
 {
     Key { code: key }.level()
 }
 
-#[unsafe(no_mangle)]
-pub extern "C" fn mittenhelm_is_cell(key: u64) -> bool
+pub fn mittenhelm_is_cell(key: u64) -> bool
     ensures { result ≡ is_cell key }
 {
     Key { code: key }.is_cell()
 }
 
-#[unsafe(no_mangle)]
-pub extern "C" fn mittenhelm_parent(key: u64) -> u64
+pub fn mittenhelm_parent(key: u64) -> u64
     ensures { result ≡ parent_of key }
 {
     Key { code: key }.parent().code
 }
 
-#[unsafe(no_mangle)]
-pub extern "C" fn mittenhelm_add(a: u64, b: u64) -> u64
+pub fn mittenhelm_add(a: u64, b: u64) -> u64
     ensures { result ≡ add a b }
 {
     Key { code: a }.add(Key { code: b }).code
 }
 
-#[unsafe(no_mangle)]
-pub extern "C" fn mittenhelm_sub(a: u64, b: u64) -> u64
+pub fn mittenhelm_sub(a: u64, b: u64) -> u64
     ensures { result ≡ sub a b }
 {
     Key { code: a }.sub(Key { code: b }).code
 }
 
-#[unsafe(no_mangle)]
-pub extern "C" fn mittenhelm_child(key: u64, which: u32, child: &mut u64) -> u32
+pub fn mittenhelm_child(key: u64, which: u32, child: &mut u64) -> u32
     ensures { HandsKey (child_of key which) child.old result child.new }
 {
     hand_key(Key { code: key }.child(which), child)
 }
 
-#[unsafe(no_mangle)]
-pub extern "C" fn mittenhelm_half_size(key: u64, half: &mut f32) -> u32
+pub fn mittenhelm_half_size(key: u64, half: &mut f32) -> u32
     ensures { HandsSize key half.old result half.new }
 {
     let answer = Key { code: key }.half_size();
@@ -79,8 +72,7 @@ pub extern "C" fn mittenhelm_half_size(key: u64, half: &mut f32) -> u32
     }
 }
 
-#[unsafe(no_mangle)]
-pub extern "C" fn mittenhelm_centre(key: u64, x: &mut f32, y: &mut f32, z: &mut f32) -> u32
+pub fn mittenhelm_centre(key: u64, x: &mut f32, y: &mut f32, z: &mut f32) -> u32
     ensures { HandsCentre key (three x.old y.old z.old) result (three x.new y.new z.new) }
 {
     let answer = Key { code: key }.centre();
@@ -95,30 +87,26 @@ pub extern "C" fn mittenhelm_centre(key: u64, x: &mut f32, y: &mut f32, z: &mut 
     }
 }
 
-#[unsafe(no_mangle)]
-pub extern "C" fn mittenhelm_vertex(key: u64, level: u32, corner: u32, vertex: &mut u64) -> u32
+pub fn mittenhelm_vertex(key: u64, level: u32, corner: u32, vertex: &mut u64) -> u32
     ensures { HandsKey (vertex_answer key level corner) vertex.old result vertex.new }
 {
     hand_key(Key { code: key }.vertex(level, corner), vertex)
 }
 
-#[unsafe(no_mangle)]
-pub extern "C" fn mittenhelm_is_inner(vertex: u64, level: u32) -> bool
+pub fn mittenhelm_is_inner(vertex: u64, level: u32) -> bool
     ensures { result ≡ is_inner level vertex }
 {
     Key { code: vertex }.is_inner(level)
 }
 
-#[unsafe(no_mangle)]
-pub extern "C" fn mittenhelm_side(vertex: u64, level: u32, which: u32, cell: &mut u64) -> u32
+pub fn mittenhelm_side(vertex: u64, level: u32, which: u32, cell: &mut u64) -> u32
     ensures { HandsKey (side_answer vertex level which) cell.old result cell.new }
 {
     hand_key(Key { code: vertex }.side(level, which), cell)
 }
 
-#[unsafe(no_mangle)]
-pub extern "C" fn mittenhelm_should_refine(level: u32, bound: u32, distance: f32) -> bool
-    ensures { result ≡ (leb level deepest && splits level bound distance) }
+pub fn mittenhelm_should_refine(level: u32, bound: u32, distance: f32) -> bool
+    ensures { result ≡ (nat_le level deepest && splits level bound distance) }
 {
     morton::should_refine(level, bound, distance)
 }
