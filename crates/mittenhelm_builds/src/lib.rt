@@ -75,8 +75,7 @@ fn hand_over(
     }
 }
 
-#[unsafe(no_mangle)]
-pub extern "C" fn mittenhelm_start(
+pub fn mittenhelm_start(
     bound: u32,
     keys: &[u64],
     distances: &[f32],
@@ -104,8 +103,7 @@ pub extern "C" fn mittenhelm_start(
     hand_over(answer, state, key, x, y, z, half)
 }
 
-#[unsafe(no_mangle)]
-pub extern "C" fn mittenhelm_distance(
+pub fn mittenhelm_distance(
     state: &mut [u64],
     keys: &mut [u64],
     distances: &mut [f32],
