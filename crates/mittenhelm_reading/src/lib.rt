@@ -1,5 +1,5 @@
 #![tactic(auto)]
-// The boundary for hosts, reading: numbers and slices only. include/mittenhelm.h declares each function for C.
+// The boundary for hosts, reading: numbers and slices only. mittenhelm_reading_c exports them to C.
 ghost use Rattle.tree.specs.Tree.{tree_of, Sound, Decides};
 ghost use Rattle.vertices.specs.Listing.{lists_of};
 ghost use Rattle.mittenhelm_reading.specs.Reading.{found_at, HandsFound, HandsLookup, eight_at, HandsEight, HandsDual, HandsCount, HandsList};
@@ -84,20 +84,13 @@ pub fn hand_count(answer: ListAnswer, count: &mut usize) -> u32
     }
 }
 
-#[unsafe(no_mangle)]
-pub extern "C" fn mittenhelm_sound(
-    keys: &[u64],
-    distances: &[f32],
-    firsts: &[u16],
-    leaves: &[u64],
-) -> bool
+pub fn mittenhelm_sound(keys: &[u64], distances: &[f32], firsts: &[u16], leaves: &[u64]) -> bool
     ensures { Decides result (Sound (tree_of keys.now distances.now firsts.now leaves.now)) }
 {
     tree::sound(keys, distances, firsts, leaves)
 }
 
-#[unsafe(no_mangle)]
-pub extern "C" fn mittenhelm_look_up(
+pub fn mittenhelm_look_up(
     keys: &[u64],
     distances: &[f32],
     firsts: &[u16],
@@ -116,8 +109,7 @@ pub extern "C" fn mittenhelm_look_up(
     hand_found(answer, found, distance, place, tried)
 }
 
-#[unsafe(no_mangle)]
-pub extern "C" fn mittenhelm_list(
+pub fn mittenhelm_list(
     keys: &[u64],
     distances: &[f32],
     firsts: &[u16],
@@ -135,8 +127,7 @@ pub extern "C" fn mittenhelm_list(
     hand_count(answer, count)
 }
 
-#[unsafe(no_mangle)]
-pub extern "C" fn mittenhelm_dual_cell(
+pub fn mittenhelm_dual_cell(
     keys: &[u64],
     distances: &[f32],
     firsts: &[u16],
