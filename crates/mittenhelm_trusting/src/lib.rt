@@ -1,5 +1,5 @@
 #![tactic(auto)]
-// The boundary for hosts, reading a tree that was checked before: numbers and slices only. include/mittenhelm.h declares each function for C.
+// The boundary for hosts, reading a tree that was checked before: numbers and slices only. mittenhelm_trusting_c exports them to C.
 ghost use Rattle.tree.specs.Down.{nodes_of};
 ghost use Rattle.tree.specs.Climb.{trusting_of};
 ghost use Rattle.vertices.specs.Listing.{lists_of};
@@ -7,8 +7,7 @@ ghost use Rattle.vertices.specs.Cells.{cells_of, CellsSays};
 ghost use Rattle.mittenhelm_reading.specs.Reading.{found_at, HandsFound, eight_at};
 ghost use Rattle.mittenhelm_trusting.specs.Trusting.{HandsTrustedList, HandsTrustedDual};
 
-#[unsafe(no_mangle)]
-pub extern "C" fn mittenhelm_look_up_trusting(
+pub fn mittenhelm_look_up_trusting(
     keys: &[u64],
     distances: &[f32],
     firsts: &[u16],
@@ -26,8 +25,7 @@ pub extern "C" fn mittenhelm_look_up_trusting(
     mittenhelm_reading::hand_found(answer, found, distance, place, tried)
 }
 
-#[unsafe(no_mangle)]
-pub extern "C" fn mittenhelm_list_trusting(
+pub fn mittenhelm_list_trusting(
     keys: &[u64],
     firsts: &[u16],
     start: usize,
@@ -43,8 +41,7 @@ pub extern "C" fn mittenhelm_list_trusting(
     mittenhelm_reading::hand_count(answer, count)
 }
 
-#[unsafe(no_mangle)]
-pub extern "C" fn mittenhelm_cells_trusting(
+pub fn mittenhelm_cells_trusting(
     keys: &[u64],
     firsts: &[u16],
     from: u64,
@@ -58,8 +55,7 @@ pub extern "C" fn mittenhelm_cells_trusting(
     vertices::cells_trusting(keys, firsts, from, vertices, levels, places)
 }
 
-#[unsafe(no_mangle)]
-pub extern "C" fn mittenhelm_dual_cell_trusting(
+pub fn mittenhelm_dual_cell_trusting(
     keys: &[u64],
     distances: &[f32],
     firsts: &[u16],
