@@ -1,6 +1,5 @@
 #![tactic(auto)]
-// The boundary for hosts, slabs of cells: numbers and slices only. include/mittenhelm.h declares each function for C. It is an object of its
-// own: beside the calls for dual cells, the search that both make would be one function of that object and not part of each call, and slower.
+// The boundary for hosts, slabs of cells: numbers and slices only. mittenhelm_slabs_c exports them to C.
 ghost use Rattle.tree.specs.Tree.{tree_of};
 ghost use Rattle.tree.specs.Down.{nodes_of};
 ghost use Rattle.mittenhelm_slabs.specs.Spans.{span_at, HandsSpan, HandsSlabs, HandsTrustedSlabs};
@@ -24,8 +23,7 @@ fn hand_span(answer: SlabsAnswer, first: &mut u32, last: &mut u32) -> u32
     }
 }
 
-#[unsafe(no_mangle)]
-pub extern "C" fn mittenhelm_slabs(
+pub fn mittenhelm_slabs(
     keys: &[u64],
     distances: &[f32],
     firsts: &[u16],
@@ -43,8 +41,7 @@ pub extern "C" fn mittenhelm_slabs(
     hand_span(answer, first, last)
 }
 
-#[unsafe(no_mangle)]
-pub extern "C" fn mittenhelm_slabs_trusting(
+pub fn mittenhelm_slabs_trusting(
     keys: &[u64],
     firsts: &[u16],
     vertex: u64,
