@@ -1,6 +1,5 @@
 #![tactic(auto)]
-// The boundary for hosts, lifetimes of leaves: numbers and slices only. include/mittenhelm.h declares each function for C. It is an object of its
-// own, so that the other calls stay as they are.
+// The boundary for hosts, lifetimes of leaves: numbers and slices only. mittenhelm_lifetimes_c exports them to C.
 ghost use Rattle.tree.specs.Tree.{tree_of};
 ghost use Rattle.tree.specs.Down.{nodes_of};
 ghost use Rattle.lifetimes.specs.Needed.{reports_of};
@@ -21,8 +20,7 @@ fn hand_most(answer: LifetimesAnswer, greatest: &mut u32) -> u32
     }
 }
 
-#[unsafe(no_mangle)]
-pub extern "C" fn mittenhelm_lifetimes(
+pub fn mittenhelm_lifetimes(
     keys: &[u64],
     distances: &[f32],
     firsts: &[u16],
@@ -43,8 +41,7 @@ pub extern "C" fn mittenhelm_lifetimes(
     hand_most(answer, greatest)
 }
 
-#[unsafe(no_mangle)]
-pub extern "C" fn mittenhelm_lifetimes_trusting(
+pub fn mittenhelm_lifetimes_trusting(
     keys: &[u64],
     firsts: &[u16],
     exponent: u32,
