@@ -1,5 +1,5 @@
 #![tactic(auto)]
-// The boundary for hosts, builds: numbers and slices only. include/mittenhelm.h declares each function for C.
+// The boundary for hosts, builds: numbers and slices only. mittenhelm_builds_c exports them to C.
 ghost use Rattle.std.specs.Prelude.{◌≡◌, ◌≤◌, length, get_or};
 ghost use Rattle.morton.specs.Level.{limit};
 ghost use Rattle.build.specs.Build.{tables_of};

@@ -1,5 +1,5 @@
 #![tactic(auto)]
-// The boundary for hosts, keys: numbers only. include/mittenhelm.h declares each function for C.
+// The boundary for hosts, keys: numbers only. mittenhelm_keys_c exports them to C.
 ghost use Rattle.std.specs.Prelude.{◌≡◌, ◌&&◌, nat_le};
 ghost use Rattle.morton.specs.Answers.{child_of, vertex_answer, side_answer};
 ghost use Rattle.morton.specs.Field.{add, sub};
