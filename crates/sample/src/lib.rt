@@ -9,7 +9,7 @@ ghost use Rattle.sample.specs.Count.{differing_of, counted_of};
 // The call of a text that is no line, as where the sample has ended; a line has two digits for its own.
 pub const END: usize = 256;
 
-#[derive(Drop)]
+#[derive(Clone, Copy)]
 pub struct Line {
     pub op: usize,
     pub a: u64,
@@ -25,15 +25,17 @@ pub struct Line {
 }
 
 // How many lines of each call agreed, and how many of all differ.
-#[derive(Drop)]
+#[derive(Clone, Copy)]
 pub struct Tally {
     pub agree: [u64; 24],
     pub differ: u64,
 }
 
 // The value of a hexadecimal digit; of any other byte, 0.
+#[tactic(auto, unfolding(crate::specs::Text::digit_of))]
 fn digit(b: u8) -> u64
-    ensures { (result ≡ digit_of b) × (result < 16) }
+    ensures value { result ≡ digit_of b }
+    ensures bound { result < 16 }
 {
     if b < 48 {
         return 0;
@@ -51,8 +53,10 @@ fn digit(b: u8) -> u64
 }
 
 fn word(text: [u8; 108], at: usize, digits: usize) -> u64
-    requires { (at + digits ≤ 108) × (digits ≤ 16) }
-    ensures { (result ≡ number text at digits) × (result < 16 ^ digits) }
+    requires within { at + digits ≤ 108 }
+    requires few { digits ≤ 16 }
+    ensures value { result ≡ number text at digits }
+    ensures bound { result < 16 ^ digits }
 {
     let mut n = 0;
     let mut i = 0;
