@@ -5,18 +5,18 @@ ghost use Rattle.std.specs.Prelude.{◌≤◌};
 
 use build::Answer;
 use dual::{Dual, Tried};
-use libc::STDOUT_FILENO;
 use morton::{CentreAnswer, Key, KeyAnswer, SizeAnswer};
 use slabs::SlabsAnswer;
+use std::io;
 use tree::Lookup;
 use vertices::ListAnswer;
 
-fn say(example: &[u8], holds: bool) {
-    io::write_all(STDOUT_FILENO, example);
+fn say(rt: &impl Print, example: &[u8], holds: bool) -> io::Result<()> {
+    rt.write_all(example)?;
     if holds {
-        io::write_all(STDOUT_FILENO, b": yes\n");
+        rt.write_all(b": yes\n")
     } else {
-        io::write_all(STDOUT_FILENO, b": NO\n");
+        rt.write_all(b": NO\n")
     }
 }
 
@@ -42,7 +42,7 @@ fn is_split(key: u64, bound: u32, distance: f32) -> bool {
 }
 
 // A build in which one key has a distance of its own, and every other the same.
-#[derive(Drop)]
+#[derive(Clone, Copy)]
 struct Field {
     key: u64,
     there: f32,
@@ -59,7 +59,7 @@ fn far() -> Field {
 }
 
 // The last answer of a build, and how many distances were given for it.
-#[derive(Drop)]
+#[derive(Clone, Copy)]
 struct Trial {
     answer: Answer,
     given: u64,
@@ -417,85 +417,109 @@ fn reaches(keys: &[u64], firsts: &[u16], key: u64, exponent: u32, low: u32, high
     }
 }
 
-fn say_of_slabs(keys: &[u64], firsts: &[u16]) {
+fn say_of_slabs(rt: &impl Print, keys: &[u64], firsts: &[u16]) -> io::Result<()> {
     // The centres of its nodes are 1/8, 3/16 and 3/8 high.
     say(
+        rt,
         b"that tree, vertex of 519, corner 7, level 3: slabs 1 to 3 of 8, 2 to 6 of 16",
         reaches(keys, firsts, 519, 3, 1, 3) && reaches(keys, firsts, 519, 4, 2, 6),
-    );
+    )?;
     // At 1 on x, 3 on y and 7 on z, of 8, it lies inside one leaf, whose centre is 7/8 high.
     say(
+        rt,
         b"that tree, vertex of 816, corner 7, level 3: slab 7 of 8, 3 of 4",
         reaches(keys, firsts, 816, 3, 7, 7) && reaches(keys, firsts, 816, 2, 3, 3),
-    );
+    )
 }
 
-fn say_of_tree(keys: &[u64], distances: &[f32], firsts: &[u16], leaves: &[u64]) {
+fn say_of_tree(
+    rt: &impl Print,
+    keys: &[u64],
+    distances: &[f32],
+    firsts: &[u16],
+    leaves: &[u64],
+) -> io::Result<()> {
     say(
+        rt,
         b"that tree is sound",
         tree::sound(keys, distances, firsts, leaves),
-    );
+    )?;
     say(
+        rt,
         b"that tree, key 4152: 519 at place 80; 2 tried",
         finds(keys, distances, firsts, leaves, 4152, 519, 80, 2),
-    );
+    )?;
     let outer = [71, 70, 69, 68, 67, 66, 65, 519];
     let outer_at = [16, 15, 14, 13, 12, 11, 10, 80];
     say(
+        rt,
         b"that tree, vertex of 519, corner 7, level 3: 71, 70, 69, 68, 67, 66, 65, 519 at 16 down to 10, 80; 15 tried",
         meet(keys, distances, firsts, leaves, 519, outer, outer_at, 15),
-    );
+    )?;
     let inner = [519, 518, 517, 516, 515, 514, 513, 512];
     let inner_at = [80, 79, 78, 77, 76, 75, 74, 73];
     say(
+        rt,
         b"that tree, vertex of 512, corner 7, level 3: 519 down to 512 at 80 down to 73; 8 tried",
         meet(keys, distances, firsts, leaves, 512, inner, inner_at, 8),
-    );
+    )?;
     say(
+        rt,
         b"that tree, 0 for a vertex: 4, and nothing in the arrays",
         is_empty(dual::dual_cell(keys, distances, firsts, leaves, 0, 3), 4),
-    );
-    say_of_slabs(keys, firsts);
+    )?;
+    say_of_slabs(rt, keys, firsts)
 }
 
-fn say_of_broken(keys: &[u64], firsts: &[u16], leaves: &[u64]) {
+fn say_of_broken(rt: &impl Print, keys: &[u64], firsts: &[u16], leaves: &[u64]) -> io::Result<()> {
     let mut last = [1.0f32; 81];
     last[80] = 1.0 / 0.0;
     say(
+        rt,
         b"that tree, infinity at its last node: not sound",
         !tree::sound(keys, &last, firsts, leaves),
-    );
+    )?;
     let mut first = [1.0f32; 81];
     first[0] = 0.0 / 0.0;
     say(
+        rt,
         b"that tree, NaN at its root: not sound",
         !tree::sound(keys, &first, firsts, leaves),
-    );
+    )
 }
 
 // Key 64 is split, at place 9, and the last node is a leaf.
-fn say_of_firsts(keys: &[u64], distances: &[f32], firsts: [u16; 81], leaves: &[u64]) {
+fn say_of_firsts(
+    rt: &impl Print,
+    keys: &[u64],
+    distances: &[f32],
+    firsts: [u16; 81],
+    leaves: &[u64],
+) -> io::Result<()> {
     let mut before = firsts;
     before[9] = 72;
     say(
+        rt,
         b"that tree, the first child of 64 at 72 and not 73: not sound",
         !tree::sound(keys, distances, &before, leaves),
-    );
+    )?;
     let mut below = firsts;
     below[80] = 1;
     say(
+        rt,
         b"that tree, a first child of its last leaf: not sound",
         !tree::sound(keys, distances, &below, leaves),
-    );
+    )
 }
 
-fn say_of_73() {
+fn say_of_73(rt: &impl Print) -> io::Result<()> {
     let mut keys = [0u64; 73];
     let mut distances = [0.0f32; 73];
     let mut firsts = [0u16; 73];
     let mut leaves = [0u64; 64];
     let whole = far();
     say(
+        rt,
         b"bound 2, 73 times 1.0: 73 nodes, 64 leaves, 27 vertices",
         grows(
             2,
@@ -506,10 +530,10 @@ fn say_of_73() {
             &mut leaves,
             27,
         ),
-    );
+    )
 }
 
-fn say_of_81() {
+fn say_of_81(rt: &impl Print) -> io::Result<()> {
     let mut keys = [0u64; 81];
     let mut distances = [0.0f32; 81];
     let mut firsts = [0u16; 81];
@@ -520,6 +544,7 @@ fn say_of_81() {
         elsewhere: 1.0,
     };
     say(
+        rt,
         b"bound 3, 0.0 for key 64, else 1.0: 81 nodes, 71 leaves, 34 vertices",
         grows(
             3,
@@ -530,28 +555,30 @@ fn say_of_81() {
             &mut leaves,
             34,
         ),
-    );
-    say_of_tree(&keys, &distances, &firsts, &leaves);
+    )?;
+    say_of_tree(rt, &keys, &distances, &firsts, &leaves)?;
     say(
+        rt,
         b"that tree, one distance too many: not sound",
         !tree::sound(&keys, &[0.0f32; 82], &firsts, &leaves),
-    );
-    say_of_broken(&keys, &firsts, &leaves);
-    say_of_firsts(&keys, &distances, firsts, &leaves);
+    )?;
+    say_of_broken(rt, &keys, &firsts, &leaves)?;
+    say_of_firsts(rt, &keys, &distances, firsts, &leaves)?;
     let least = leaves[0];
     leaves[0] = leaves[1];
     leaves[1] = least;
     say(
+        rt,
         b"that tree, two leaves exchanged: not sound",
         !tree::sound(&keys, &distances, &firsts, &leaves),
-    );
+    )
 }
 
 // ---- the program `counts`
 
 // Input for it: a bound, and distances of four bytes that are all the same but for zeros at the places from `first` to before `end`; at each fifth of these
 // alone, if so said.
-#[derive(Drop)]
+#[derive(Clone, Copy)]
 struct Given {
     bound: u8,
     first: usize,
@@ -593,7 +620,7 @@ fn fill(given: Given, input: &mut [u8]) {
 }
 
 // What it prints for the first bytes of such an input.
-fn show(example: &[u8], given: Given, length: usize)
+fn show(rt: &impl Print, example: &[u8], given: Given, length: usize) -> io::Result<()>
     requires { length ≤ 4200 }
 {
     let mut input = [0u8; 4200];
@@ -601,9 +628,9 @@ fn show(example: &[u8], given: Given, length: usize)
     let text = counting::line(&input[..length]);
     let bytes = text.bytes;
     let n = text.length;
-    io::write_all(STDOUT_FILENO, example);
-    io::write_all(STDOUT_FILENO, b": ");
-    io::write_all(STDOUT_FILENO, &bytes[..n]);
+    rt.write_all(example)?;
+    rt.write_all(b": ")?;
+    rt.write_all(&bytes[..n])
 }
 
 // 1.0 but for zeros from one place to before another.
@@ -631,17 +658,17 @@ fn fifths(end: usize) -> Given {
     }
 }
 
-fn show_ends() {
-    show(b"counts, nothing", ones(2), 0);
-    show(b"counts, byte 2", ones(2), 1);
-    show(b"counts, byte 16", ones(16), 1);
-    show(b"counts, byte 2, 73 times 1.0", ones(2), 293);
-    show(b"counts, that without its last byte", ones(2), 292);
-    show(b"counts, that with 9 bytes more", ones(2), 302);
+fn show_ends(rt: &impl Print) -> io::Result<()> {
+    show(rt, b"counts, nothing", ones(2), 0)?;
+    show(rt, b"counts, byte 2", ones(2), 1)?;
+    show(rt, b"counts, byte 16", ones(16), 1)?;
+    show(rt, b"counts, byte 2, 73 times 1.0", ones(2), 293)?;
+    show(rt, b"counts, that without its last byte", ones(2), 292)?;
+    show(rt, b"counts, that with 9 bytes more", ones(2), 302)
 }
 
-fn show_distances() {
-    show(b"counts, byte 3, 73 times 1.0", ones(3), 293);
+fn show_distances(rt: &impl Print) -> io::Result<()> {
+    show(rt, b"counts, byte 3, 73 times 1.0", ones(3), 293)?;
     let reversed = Given {
         bound: 3,
         first: 0,
@@ -649,12 +676,13 @@ fn show_distances() {
         fifth: false,
         other: [0x3f, 0x80, 0, 0],
     };
-    show(b"counts, byte 3, 585 times 3f 80 00 00", reversed, 2341);
+    show(rt, b"counts, byte 3, 585 times 3f 80 00 00", reversed, 2341)?;
     show(
+        rt,
         b"counts, byte 3, 0.0 for key 64, else 1.0",
         zeros(3, 9, 10),
         325,
-    );
+    )?;
     let greatest = Given {
         bound: 3,
         first: 9,
@@ -663,10 +691,11 @@ fn show_distances() {
         other: [0xff, 0xff, 0x7f, 0x7f],
     };
     show(
+        rt,
         b"counts, byte 3, 0.0 for key 64, else the greatest f32",
         greatest,
         325,
-    );
+    )
 }
 
 // 0.0 nine times, then what the other four bytes are.
@@ -680,103 +709,121 @@ fn then(other: [u8; 4]) -> Given {
     }
 }
 
-fn show_broken() {
+fn show_broken(rt: &impl Print) -> io::Result<()> {
     let nan = then([1, 0, 0x80, 0x7f]);
-    show(b"counts, byte 3, 9 times 0.0, then NaN", nan, 41);
-    show(b"counts, that without its last byte", nan, 40);
+    show(rt, b"counts, byte 3, 9 times 0.0, then NaN", nan, 41)?;
+    show(rt, b"counts, that without its last byte", nan, 40)?;
     show(
+        rt,
         b"counts, byte 3, 9 times 0.0, then infinity",
         then([0, 0, 0x80, 0x7f]),
         41,
-    );
+    )?;
     show(
+        rt,
         b"counts, byte 3, 9 times 0.0, then -infinity",
         then([0, 0, 0x80, 0xff]),
         41,
-    );
+    )
 }
 
-fn show_rooms() {
+fn show_rooms(rt: &impl Print) -> io::Result<()> {
     show(
+        rt,
         b"counts, byte 4, 89 times 0.0, then 1.0",
         zeros(4, 0, 89),
         4101,
-    );
-    show(b"counts, byte 4, 0.0", zeros(4, 0, 1025), 4101);
+    )?;
+    show(rt, b"counts, byte 4, 0.0", zeros(4, 0, 1025), 4101)?;
     show(
+        rt,
         b"counts, byte 4, 128 times 0.0, then 1.0 up to 1,024",
         zeros(4, 0, 128),
         4097,
-    );
+    )?;
     show(
+        rt,
         b"counts, byte 4, 128 times 0.0, then 1.0 up to 1,025",
         zeros(4, 0, 128),
         4101,
-    );
+    )?;
     show(
+        rt,
         b"counts, byte 15, 0.0 for each fifth from place 9 to 324, else 1.0",
         fifths(325),
         4101,
-    );
+    )?;
     show(
+        rt,
         b"counts, byte 15, 0.0 for each fifth from place 9 to 329, else 1.0",
         fifths(330),
         4101,
-    );
+    )?;
     show(
+        rt,
         b"counts, byte 15, 0.0 for each fifth from place 9 to 334, else 1.0",
         fifths(335),
         4101,
-    );
+    )
 }
 
-fn main() {
+fn main(rt: HostRuntime) -> io::Result<()> {
     say(
+        &rt,
         b"centre of 9 is (0.75, 0.25, 0.25)",
         centre_is(9, 0.75, 0.25, 0.25),
-    );
-    say(b"half size of 9 is 0.25", half_size_is(9, 0.25));
+    )?;
+    say(&rt, b"half size of 9 is 0.25", half_size_is(9, 0.25))?;
     // Both numerators are below 2^24, so each distance is its fraction exactly.
     say(
+        &rt,
         b"key 65, bound 3, 14529495/2^26: split",
         is_split(65, 3, 14529495.0 / 67108864.0),
-    );
+    )?;
     say(
+        &rt,
         b"key 65, bound 3, 14529496/2^26: leaf",
         !is_split(65, 3, 14529496.0 / 67108864.0),
-    );
+    )?;
     say(
+        &rt,
         b"the same in a build: 81 nodes, 71 leaves",
         finishes(3, 65, 14529495.0 / 67108864.0, 81, 71),
-    );
+    )?;
     say(
+        &rt,
         b"the same in a build: 73 nodes, 64 leaves",
         finishes(3, 65, 14529496.0 / 67108864.0, 73, 64),
-    );
+    )?;
     say(
+        &rt,
         b"bound 2, queue 64: finishes, 73 nodes, 64 leaves",
         finishes_with_64(),
-    );
+    )?;
     say(
+        &rt,
         b"bound 2, queue 63: 8 at the ninth distance",
         is_refused_with_63(),
-    );
+    )?;
     say(
+        &rt,
         b"bound 2, the key table or that of first children shorter than at the start: 10 at the first distance",
         is_refused_elsewhere(),
-    );
+    )?;
     say(
+        &rt,
         b"bound 2, 1.0 throughout, 72 first children: 6 at the 73rd distance",
         is_refused_past_72(),
-    );
+    )?;
     say(
+        &rt,
         b"bound 4, 0.0 throughout, tables of 4,200: 6 at the 4,097th distance",
         is_refused_past_4096(),
-    );
-    say_of_73();
-    say_of_81();
-    show_ends();
-    show_distances();
-    show_broken();
-    show_rooms();
+    )?;
+    say_of_73(&rt)?;
+    say_of_81(&rt)?;
+    show_ends(&rt)?;
+    show_distances(&rt)?;
+    show_broken(&rt)?;
+    show_rooms(&rt)
 }

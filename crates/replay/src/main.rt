@@ -4,9 +4,10 @@
 ghost use Rattle.std.specs.Prelude.{◌≡◌, min};
 
 use build::{Answer, Lengths, Request, State};
-use libc::{STDIN_FILENO, STDOUT_FILENO};
 use morton::{CentreAnswer, Key, KeyAnswer, SizeAnswer, Vec3};
 use sample::{END, Line, Tally};
+use std::io;
+use std::io::{ErrorKind, Read};
 
 fn same_bool(answer: bool, x: u64) -> bool {
     if answer { x == 1 } else { x == 0 }
@@ -86,7 +87,7 @@ fn agrees(l: Line) -> bool {
 // `distance` goes on with it.
 
 // The state of the build at hand, and whether the last line agreed.
-#[derive(Drop)]
+#[derive(Clone, Copy)]
 struct Step {
     state: State,
     same: bool,
@@ -239,10 +240,15 @@ const START: usize = 12;
 const DISTANCE: usize = 13;
 
 // Where the input has ended, the text is no line.
-fn read_line() -> Line {
+fn read_line(input: &mut impl Read) -> io::Result<Line> {
     let mut text = [0u8; 108];
-    io::read_full(STDIN_FILENO, &mut text);
-    sample::parse(text)
+    if let Err(e) = input.read_exact(&mut text) {
+        if e.kind() != ErrorKind::UnexpectedEof {
+            return Err(e);
+        }
+        return Ok(sample::parse([0u8; 108]));
+    }
+    Ok(sample::parse(text))
 }
 
 fn idle() -> State {
@@ -261,7 +267,7 @@ fn idle() -> State {
     }
 }
 
-fn replay() -> Tally {
+fn replay(input: &mut impl Read) -> io::Result<Tally> {
     let mut keys = [0u64; 1024];
     let mut distances = [0.0f32; 1024];
     let mut firsts = [0u16; 1024];
@@ -272,9 +278,9 @@ fn replay() -> Tally {
     let mut tally = Tally { agree, differ: 0 };
     let mut left: u32 = 100_000;
     while 0 < left {
-        let l = read_line();
+        let l = read_line(input)?;
         if l.op == END {
-            return tally;
+            return Ok(tally);
         }
         if l.op == START {
             keys = [0u64; 1024];
@@ -310,49 +316,49 @@ fn replay() -> Tally {
             }
         }
     }
-    tally
+    Ok(tally)
 }
 
-fn print_count(n: u64) {
-    io::print_decimal(STDOUT_FILENO, n);
-    io::write_all(STDOUT_FILENO, b"\n");
+fn print_count(rt: &impl Print, n: u64) -> io::Result<()> {
+    println!(rt; "{n}")
 }
 
 // A call's name and how many of its lines agreed.
-fn print(name: &[u8], agree: [u64; 24], op: usize) {
-    io::write_all(STDOUT_FILENO, name);
+fn print(rt: &impl Print, name: &[u8], agree: [u64; 24], op: usize) -> io::Result<()> {
+    rt.write_all(name)?;
     if op < 24 {
-        print_count(agree[op]);
+        print_count(rt, agree[op])?;
     }
+    Ok(())
 }
 
-fn show_keys(agree: [u64; 24]) {
-    print(b"level ", agree, 0);
-    print(b"is_cell ", agree, 1);
-    print(b"parent ", agree, 2);
-    print(b"child ", agree, 3);
-    print(b"add ", agree, 4);
-    print(b"sub ", agree, 5);
-    print(b"half_size ", agree, 6);
-    print(b"centre ", agree, 7);
-    print(b"vertex ", agree, 8);
-    print(b"is_inner ", agree, 9);
-    print(b"side ", agree, 10);
-    print(b"should_refine ", agree, 11);
+fn show_keys(rt: &impl Print, agree: [u64; 24]) -> io::Result<()> {
+    print(rt, b"level ", agree, 0)?;
+    print(rt, b"is_cell ", agree, 1)?;
+    print(rt, b"parent ", agree, 2)?;
+    print(rt, b"child ", agree, 3)?;
+    print(rt, b"add ", agree, 4)?;
+    print(rt, b"sub ", agree, 5)?;
+    print(rt, b"half_size ", agree, 6)?;
+    print(rt, b"centre ", agree, 7)?;
+    print(rt, b"vertex ", agree, 8)?;
+    print(rt, b"is_inner ", agree, 9)?;
+    print(rt, b"side ", agree, 10)?;
+    print(rt, b"should_refine ", agree, 11)
 }
 
-fn show_builds(agree: [u64; 24]) {
-    print(b"start ", agree, 12);
-    print(b"distance ", agree, 13);
-    print(b"keys at a place ", agree, 14);
-    print(b"distance at a place ", agree, 15);
+fn show_builds(rt: &impl Print, agree: [u64; 24]) -> io::Result<()> {
+    print(rt, b"start ", agree, 12)?;
+    print(rt, b"distance ", agree, 13)?;
+    print(rt, b"keys at a place ", agree, 14)?;
+    print(rt, b"distance at a place ", agree, 15)
 }
 
-fn main() {
-    let t = replay();
+fn main(rt: HostRuntime) -> io::Result<()> {
+    let t = replay(&mut rt.stdin())?;
     let agree = t.agree;
-    show_keys(agree);
-    show_builds(agree);
-    io::write_all(STDOUT_FILENO, b"differ ");
-    print_count(t.differ);
+    show_keys(&rt, agree)?;
+    show_builds(&rt, agree)?;
+    rt.write_all(b"differ ")?;
+    print_count(&rt, t.differ)
 }

@@ -2,10 +2,11 @@
 // Replays the sample's lines that read a tree, and counts the lines that agree. The sample is the oracle's answers, written by
 // tools/sample. `put` lines write a tree into the tables, and the lines after them lend the first places, as many as A says.
 use dual::Tried;
-use libc::{STDIN_FILENO, STDOUT_FILENO};
 use lifetimes::LifetimesAnswer;
 use sample::{END, Line, Tally};
 use slabs::SlabsAnswer;
+use std::io;
+use std::io::{ErrorKind, Read};
 use tree::Lookup;
 use vertices::ListAnswer;
 
@@ -14,10 +15,15 @@ const PUT: usize = 16;
 const LIST: usize = 19;
 
 // Where the input has ended, the text is no line.
-fn read_line() -> Line {
+fn read_line(input: &mut impl Read) -> io::Result<Line> {
     let mut text = [0u8; 108];
-    io::read_full(STDIN_FILENO, &mut text);
-    sample::parse(text)
+    if let Err(e) = input.read_exact(&mut text) {
+        if e.kind() != ErrorKind::UnexpectedEof {
+            return Err(e);
+        }
+        return Ok(sample::parse([0u8; 108]));
+    }
+    Ok(sample::parse(text))
 }
 
 // Writes one place of a tree's tables, if all have it.
@@ -274,7 +280,7 @@ fn reads(
     }
 }
 
-fn replay() -> Tally {
+fn replay(input: &mut impl Read) -> io::Result<Tally> {
     let mut keys = [0u64; 1024];
     let mut distances = [0.0f32; 1024];
     let mut firsts = [0u16; 1024];
@@ -285,9 +291,9 @@ fn replay() -> Tally {
     let mut tally = Tally { agree, differ: 0 };
     let mut left: u32 = 100_000;
     while 0 < left {
-        let l = read_line();
+        let l = read_line(input)?;
         if l.op == END {
-            return tally;
+            return Ok(tally);
         }
         if l.op == PUT {
             let same = put(l, &mut keys, &mut distances, &mut firsts, &mut leaves);
@@ -318,33 +324,33 @@ fn replay() -> Tally {
             }
         }
     }
-    tally
+    Ok(tally)
 }
 
-fn print_count(n: u64) {
-    io::print_decimal(STDOUT_FILENO, n);
-    io::write_all(STDOUT_FILENO, b"\n");
+fn print_count(rt: &impl Print, n: u64) -> io::Result<()> {
+    println!(rt; "{n}")
 }
 
 // A call's name and how many of its lines agreed.
-fn print(name: &[u8], agree: [u64; 24], op: usize) {
-    io::write_all(STDOUT_FILENO, name);
+fn print(rt: &impl Print, name: &[u8], agree: [u64; 24], op: usize) -> io::Result<()> {
+    rt.write_all(name)?;
     if op < 24 {
-        print_count(agree[op]);
+        print_count(rt, agree[op])?;
     }
+    Ok(())
 }
 
-fn main() {
-    let t = replay();
+fn main(rt: HostRuntime) -> io::Result<()> {
+    let t = replay(&mut rt.stdin())?;
     let agree = t.agree;
-    print(b"put ", agree, 16);
-    print(b"sound ", agree, 17);
-    print(b"look_up ", agree, 18);
-    print(b"list ", agree, 19);
-    print(b"vertex at a place ", agree, 20);
-    print(b"dual_cell ", agree, 21);
-    print(b"slabs ", agree, 22);
-    print(b"lifetimes ", agree, 23);
-    io::write_all(STDOUT_FILENO, b"differ ");
-    print_count(t.differ);
+    print(&rt, b"put ", agree, 16)?;
+    print(&rt, b"sound ", agree, 17)?;
+    print(&rt, b"look_up ", agree, 18)?;
+    print(&rt, b"list ", agree, 19)?;
+    print(&rt, b"vertex at a place ", agree, 20)?;
+    print(&rt, b"dual_cell ", agree, 21)?;
+    print(&rt, b"slabs ", agree, 22)?;
+    print(&rt, b"lifetimes ", agree, 23)?;
+    rt.write_all(b"differ ")?;
+    print_count(&rt, t.differ)
 }
