@@ -276,13 +276,12 @@ fn replay(input: &mut impl Read) -> io::Result<Tally> {
     let mut state = idle();
     let agree = [0u64; 24];
     let mut tally = Tally { agree, differ: 0 };
-    let mut left: u32 = 100_000;
-    while 0 < left {
+    for _ in 0..100_000 {
         let l = read_line(input)?;
         if l.op == END {
             return Ok(tally);
         }
-        if l.op == START {
+        let same = if l.op == START {
             keys = [0u64; 1024];
             distances = [0.0f32; 1024];
             firsts = [0u16; 1024];
@@ -290,31 +289,23 @@ fn replay(input: &mut impl Read) -> io::Result<Tally> {
             queue = [0u64; 1024];
             let step = start(l, state, &keys, &distances, &firsts, &leaves, &queue);
             state = step.state;
-            let more = sample::counted(tally, l.op, step.same);
-            tally = more;
-            left -= 1;
+            step.same
+        } else if l.op == DISTANCE {
+            let step = distance(
+                l,
+                state,
+                &mut keys,
+                &mut distances,
+                &mut firsts,
+                &mut leaves,
+                &mut queue,
+            );
+            state = step.state;
+            step.same
         } else {
-            if l.op == DISTANCE {
-                let step = distance(
-                    l,
-                    state,
-                    &mut keys,
-                    &mut distances,
-                    &mut firsts,
-                    &mut leaves,
-                    &mut queue,
-                );
-                state = step.state;
-                let more = sample::counted(tally, l.op, step.same);
-                tally = more;
-                left -= 1;
-            } else {
-                let same = reads(l, &keys, &distances, &firsts, &leaves, &queue);
-                let more = sample::counted(tally, l.op, same);
-                tally = more;
-                left -= 1;
-            }
-        }
+            reads(l, &keys, &distances, &firsts, &leaves, &queue)
+        };
+        tally = sample::counted(tally, l.op, same);
     }
     Ok(tally)
 }

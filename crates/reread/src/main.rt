@@ -289,40 +289,29 @@ fn replay(input: &mut impl Read) -> io::Result<Tally> {
     let mut levels = [0u8; 1024];
     let agree = [0u64; 24];
     let mut tally = Tally { agree, differ: 0 };
-    let mut left: u32 = 100_000;
-    while 0 < left {
+    for _ in 0..100_000 {
         let l = read_line(input)?;
         if l.op == END {
             return Ok(tally);
         }
-        if l.op == PUT {
-            let same = put(l, &mut keys, &mut distances, &mut firsts, &mut leaves);
-            let more = sample::counted(tally, l.op, same);
-            tally = more;
-            left -= 1;
+        let same = if l.op == PUT {
+            put(l, &mut keys, &mut distances, &mut firsts, &mut leaves)
+        } else if l.op == LIST {
+            vertices = [0u64; 1024];
+            levels = [0u8; 1024];
+            list(
+                l,
+                &keys,
+                &distances,
+                &firsts,
+                &leaves,
+                &mut vertices,
+                &mut levels,
+            )
         } else {
-            if l.op == LIST {
-                vertices = [0u64; 1024];
-                levels = [0u8; 1024];
-                let same = list(
-                    l,
-                    &keys,
-                    &distances,
-                    &firsts,
-                    &leaves,
-                    &mut vertices,
-                    &mut levels,
-                );
-                let more = sample::counted(tally, l.op, same);
-                tally = more;
-                left -= 1;
-            } else {
-                let same = reads(l, &keys, &distances, &firsts, &leaves, &vertices, &levels);
-                let more = sample::counted(tally, l.op, same);
-                tally = more;
-                left -= 1;
-            }
-        }
+            reads(l, &keys, &distances, &firsts, &leaves, &vertices, &levels)
+        };
+        tally = sample::counted(tally, l.op, same);
     }
     Ok(tally)
 }

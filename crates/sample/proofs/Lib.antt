@@ -1,4 +1,3 @@
--- The laws of `sample`. Lending is what the programs cite.
+-- The laws of `sample`.
 pub mod Digits
 pub mod Counting
-pub mod Lending
