@@ -1,14 +1,19 @@
 #![tactic(auto)]
 // Document 01's program: reads a bound byte and then f32 distances, and prints how many nodes, leaves and vertices the tree has. The line is proved, in
-// `counting`. No contract can say what standard input holds: that its bytes are those that were given, and that the line is written, is tested.
-ghost use Rattle.std.specs.Prelude.{◌≤◌, length, IfOk};
+// `counting`, and here that the line of the whole input is written, for each reader and writer whose bytes are known. No contract can say which bytes
+// standard input gives and standard output takes: that is tested.
+ghost use Rattle.std.specs.Prelude.{◌<◌, ◌≤◌, length, take, IfOk, OnOk, IfSome};
+ghost use Rattle.std.specs.Io.KnownBytes.{Appends, Consumes, IsAtEnd};
+ghost use Rattle.counting.specs.Printed.{line_of};
 
 use std::io;
-use std::io::Read;
+use std::io::{Read, Write};
 
 // Fills the buffer as far as the input goes, by as many reads as that takes, and says how far.
-fn fill(input: &mut impl Read, buffer: &mut [u8]) -> io::Result<usize>
-    ensures { IfOk result (λ n. n ≤ length buffer.new) }
+fn fill<R: Read>(input: &mut R, buffer: &mut [u8]) -> io::Result<usize>
+    ensures bound { IfOk result (λ n. n ≤ length buffer.new) }
+    ensures bytes { IfOk result (λ n. Consumes (R.remaining input.old) (R.remaining input.new) (take n buffer.new)) }
+    ensures end { IfOk result (λ n. n < length buffer.new → IsAtEnd (R.remaining input.new)) }
 {
     let mut got = 0;
     while got < buffer.len() {
@@ -21,12 +26,19 @@ fn fill(input: &mut impl Read, buffer: &mut [u8]) -> io::Result<usize>
     Ok(got)
 }
 
-fn main(rt: HostRuntime) -> io::Result<()> {
+// Writes the line of the whole input, whatever its reader and its writer are.
+fn answer<R: Read, W: Write>(input: &mut R, output: &mut W) -> io::Result<()>
+    ensures { OnOk result (IfSome (R.remaining input.old)
+        (λ bytes. Appends (W.contents output.old) (W.contents output.new) (line_of bytes))) }
+{
     // A bound byte, the 1,024 distances that can be accepted and one that is refused: no later byte matters (`later_ignored` in crates/counting).
-    let mut input = [0u8; 4101];
-    let got = fill(&mut rt.stdin(), &mut input)?;
-    let text = counting::line(&input[..got]);
+    let mut start = [0u8; 4101];
+    let got = fill(input, &mut start)?;
+    let text = counting::line(&start[..got]);
     let bytes = text.bytes;
-    let length = text.length;
-    rt.write_all(&bytes[..length])
+    output.write_all(&bytes[..text.length])
+}
+
+fn main(rt: HostRuntime) -> io::Result<()> {
+    answer(&mut rt.stdin(), &mut rt.stdout())
 }

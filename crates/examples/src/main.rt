@@ -120,11 +120,8 @@ fn run(
         answer: build::start(bound, keys, distances, firsts, leaves, queue),
         given: 0,
     };
-    let mut left = most;
-    while 0 < left {
-        let next = give(t, field, keys, distances, firsts, leaves, queue);
-        t = next;
-        left -= 1;
+    for _ in 0..most {
+        t = give(t, field, keys, distances, firsts, leaves, queue);
     }
     t
 }
@@ -349,15 +346,13 @@ fn far_corner(key: u64) -> u64 {
 }
 
 fn same_eight(found: [u64; 8], places: [usize; 8], eight: [u64; 8], at: [usize; 8]) -> bool {
-    let mut i = 0;
-    while i < 8 {
+    for i in 0..8 {
         if found[i] != eight[i] {
             return false;
         }
         if places[i] != at[i] {
             return false;
         }
-        i += 1;
     }
     true
 }
@@ -384,12 +379,10 @@ fn meet(
 }
 
 fn all_zero(eight: [f32; 8]) -> bool {
-    let mut i = 0;
-    while i < 8 {
+    for i in 0..8 {
         if eight[i] != 0.0 {
             return false;
         }
-        i += 1;
     }
     true
 }
@@ -612,10 +605,8 @@ fn byte_of(given: Given, i: usize) -> u8 {
 }
 
 fn fill(given: Given, input: &mut [u8]) {
-    let mut i = 0;
-    while i < input.len() {
+    for i in 0..input.len() {
         input[i] = byte_of(given, i);
-        i += 1;
     }
 }
 

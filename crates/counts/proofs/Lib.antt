@@ -1,0 +1,2 @@
+-- What reads give one after the other, and the line of them.
+mod Reading
