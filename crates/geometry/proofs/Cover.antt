@@ -4,13 +4,14 @@ use mathlib.Core.Path.{◌≡◌, refl, sym, ◌∙◌, ap, subst}
 use mathlib.Core.Bool.{Bool, true, false, cond, false≢true}
 use mathlib.Core.Logic.{◌⊎◌, inl, inr, ⊎_elim}
 use mathlib.Core.List.{List, [], ◌∷◌}
-use native.Mathlib.Nat.{add-zero, zero-add, suc-add, pow-suc, div-eq_of_lt-le, div-mul-le_self, lt-div-mul-add, div-div-eq-div-mul, mul-le-mul_right, le_refl}
+use native.Mathlib.Nat.{mul-pos, pow-zero, add-zero, zero-add, suc-add, pow-suc, div-eq_of_lt-le, div-mul-le_self, lt-div-mul-add, div-div-eq-div-mul, mul-le-mul_right, le_refl}
 use native.Mathlib.Decide.{dec_lt}
 use native.Mathlib.Omega.{arith}
+use Rattle.std.proofs.Common.{lit<}
 use lib.Pow.{pow-add}
 use borrow.Author.Tests.{eq-eqb, ne_eqb, eqb-true}
 use Rattle.morton.specs.Level.{deepest, Cell, level}
-use Rattle.morton.proofs.Levels.{eight_pos, eight_mono, cell_lead, cell_level, not_true_is}
+use Rattle.morton.proofs.Levels.{eight_mono, cell_lead, cell_level, not_true_is}
 use Rattle.morton.proofs.Fields.{cell_up}
 use Rattle.tree.specs.Tree.{In}
 use Rattle.geometry.specs.Grid.{volume, lies_in, holders, volumes, Cells, Covers}
@@ -117,10 +118,14 @@ sum_add g h (suc n) a = omega (arith, sum_add g h n (suc a))
 
 -- ---- the finest cells in a cell are as many as its volume says
 
+power_pos : (b n : ℕ) → 0 < b → 0 < b ^ n
+power_pos b zero h = subst (λ (x : ℕ). 0 < x) (sym (pow-zero b)) (lit< tt)
+power_pos b (suc n) h = subst (λ (x : ℕ). 0 < x) (sym (pow-suc b n)) (mul-pos (power_pos b n h) h)
+
 module _ (D k : ℕ) (c : Cell (level k) k) (above : level k ≤ D) where
   volume_pos : 0 < volume D k
   unfolding volume
-  volume_pos = eight_pos (D - level k)
+  volume_pos = power_pos _ (D - level k) (lit< tt)
 
   whole : 8 ^ D ≡ 8 ^ level k * volume D k
   unfolding volume
