@@ -1,3 +1,4 @@
--- The laws of `sample`.
+-- The laws of `sample`. Lending is what the programs cite.
 pub mod Digits
 pub mod Counting
+pub mod Lending
