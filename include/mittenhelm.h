@@ -129,7 +129,7 @@ uint32_t mittenhelm_distance(uint64_t *state, uint64_t state_length,
  * is sound: as many keys as distances and as first children; no distance infinite or NaN; keys strictly ascending, first 1, all
  * cell keys of level at most 15; each other key's parent present; each key with all eight children or none; beside each key the
  * place at which its first child stands, or 0 where it has none; the leaves being exactly the keys with none, ascending. A place has
- * 16 bits, so no sound tree has more than 65,537 nodes (`sound-few`). */
+ * 16 bits, so no sound tree has more than 65,537 nodes (`sound_few`). */
 
 /* Whether the tables hold a sound tree. */
 bool mittenhelm_sound(
@@ -169,7 +169,7 @@ uint32_t mittenhelm_dual_cell(
 /* The slabs that the dual cell of an inner vertex at a level reaches, of 2^exponent slabs (0 to 15) along z, slab 0 being the lowest. The
  * cell reaches from the lowest to the highest of the centres of its eight nodes: `first` and `last` are the slabs of those two heights,
  * each multiplied by 2^exponent and rounded down, so that a centre on the border of two slabs lies in the upper one. No node of the cell
- * may be given up before slab `last` is done. first <= last < 2^exponent (`reach-order`). The level matters, since with it goes which eight
+ * may be given up before slab `last` is done. first <= last < 2^exponent (`reach_order`). The level matters, since with it goes which eight
  * nodes the cell has. Refusals 11, 4, 5.
  *
  * An example: in the tree of nine nodes above, the centres of the middle vertex's cell are 1/4 and 3/4 high. Of two slabs it reaches 0 to 1,
@@ -211,8 +211,8 @@ uint32_t mittenhelm_lifetimes(
  * to. The root has key 1 and place 0, whatever stands there. A step down from the cell with key k at place p needs three things of
  * the number f at place p of the first children (0 past their end): it is one more than a multiple of 8, eight keys stand from place f
  * on, and the first of them is 8k. Child c then has key 8k + c and place f + c, whatever key stands there. So each eight places have
- * one parent, and the way down ends on any tables: of n keys, the cells that a walk goes through are linear in n (`steps-linear`), and
- * it lists at most 19 vertices for each eight keys after the first (`vertices-linear`). */
+ * one parent, and the way down ends on any tables: of n keys, the cells that a walk goes through are linear in n (`steps_linear`), and
+ * it lists at most 19 vertices for each eight keys after the first (`vertices_linear`). */
 
 /* As mittenhelm_look_up of a tree that was checked before; the distance of a place past the end of their table is 0. Refusal 1. */
 uint32_t mittenhelm_look_up_trusting(
@@ -227,7 +227,7 @@ uint32_t mittenhelm_list_trusting(
 
 /* Writes the vertices that are no less than `from`, ascending and each with its level, as many as have room in all three tables,
  * and answers how many; `places` takes eight for each: those of its dual cell, in the order of mittenhelm_dual_cell. A place is below
- * the number of keys, or 0, of any tables (`places-inside`). A host with room for one at least begins with `from` 0, goes on with the
+ * the number of keys, or 0, of any tables (`places_inside`). A host with room for one at least begins with `from` 0, goes on with the
  * last vertex + 1, and is done when fewer came than have room: that it then has each vertex once, of any tables at all, is proved
  * (crates/demands/specs/Batches.antt). No refusal. */
 uint64_t mittenhelm_cells_trusting(
