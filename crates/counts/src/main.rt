@@ -9,6 +9,21 @@ ghost use Rattle.counting.specs.Printed.{line_of};
 use std::io;
 use std::io::{Read, Write};
 
+// Standard input as the program takes it: a read that fails, as of a closed one, ends the input.
+#[derive(Drop)]
+struct UntilFailure<R> {
+    input: R,
+}
+
+impl<R: Read> Read for UntilFailure<R> {
+    fn read(&mut self, buffer: &mut [u8]) -> io::Result<usize> {
+        match self.input.read(buffer) {
+            Ok(n) => Ok(n),
+            Err(_) => Ok(0),
+        }
+    }
+}
+
 // Fills the buffer as far as the input goes, by as many reads as that takes, and says how far.
 fn fill<R: Read>(input: &mut R, buffer: &mut [u8]) -> io::Result<usize>
     ensures bound { IfOk result (λ n. n ≤ length buffer.new) }
@@ -40,5 +55,6 @@ fn answer<R: Read, W: Write>(input: &mut R, output: &mut W) -> io::Result<()>
 }
 
 fn main(rt: HostRuntime) -> io::Result<()> {
-    answer(&mut rt.stdin(), &mut rt.stdout())
+    let mut input = UntilFailure { input: rt.stdin() };
+    answer(&mut input, &mut rt.stdout())
 }
