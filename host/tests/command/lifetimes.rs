@@ -175,6 +175,8 @@ fn in_place_of_the_part() {
             assert!(said.starts_with(&format!("mittenhelm: {option} names the part's own file ")), "{said}");
         }
     }
+    // `rt ci` takes no link in the repository.
+    fs::remove_file(&link).expect("the link");
     assert_eq!(fs::read(&part).expect("the part"), bytes);
 }
 
