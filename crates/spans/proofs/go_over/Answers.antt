@@ -7,15 +7,15 @@ use Rattle.vertices.specs.Cells.{cells_of}
 use Rattle.spans.proofs.Going.{going_none, going_all, Sized, at_most, batch_inside, next_fits, going_less, going_more}
 use Rattle.spans.proofs.go_over.Goals as goal
 
--- once a batch has come
 pub loop-came-init : goal.loop-came-init
 loop-came-init c = ((refl, refl, refl), going_none _ _ _ _ c.requires.1)
 
+-- once a batch has come: w is what `cells_trusting` left
 pub overflow_mul-places : goal.overflow_mul-places
 overflow_mul-places c =
     let l = c.loop-came in
     let w = c.cells_trusting-came in
-    let few : w.result ≤ 128 = at_most l.invariant.1 c.loop-came-test.true (cells_of l.vertices l.levels l.places) (cells_of w.new.vertices w.new.levels w.new.places) l.invariant.0 w.ensures in
+    let few : w.result ≤ 128 = at_most l.invariant.1 c.loop-came-test.true _ _ l.invariant.0 w.ensures in
     record { fits = omega (arith, few) }
 
 pub slice_bounds-places-end : goal.slice_bounds-places-end
@@ -23,7 +23,7 @@ slice_bounds-places-end c =
     let l = c.loop-came in
     let w = c.cells_trusting-came in
     let sized : Sized (cells_of w.new.vertices w.new.levels w.new.places) = (w.auto.vertices ∙ l.invariant.0.0, w.auto.levels ∙ l.invariant.0.1, w.auto.places ∙ l.invariant.0.2) in
-    let few : w.result ≤ 128 = at_most l.invariant.1 c.loop-came-test.true (cells_of l.vertices l.levels l.places) (cells_of w.new.vertices w.new.levels w.new.places) l.invariant.0 w.ensures in
+    let few : w.result ≤ 128 = at_most l.invariant.1 c.loop-came-test.true _ _ l.invariant.0 w.ensures in
     omega (arith, few, sized.2)
 
 pub slice_bounds-widen-end : goal.slice_bounds-widen-end
@@ -31,14 +31,14 @@ slice_bounds-widen-end c =
     let l = c.loop-came in
     let w = c.cells_trusting-came in
     let sized : Sized (cells_of w.new.vertices w.new.levels w.new.places) = (w.auto.vertices ∙ l.invariant.0.0, w.auto.levels ∙ l.invariant.0.1, w.auto.places ∙ l.invariant.0.2) in
-    let few : w.result ≤ 128 = at_most l.invariant.1 c.loop-came-test.true (cells_of l.vertices l.levels l.places) (cells_of w.new.vertices w.new.levels w.new.places) l.invariant.0 w.ensures in
+    let few : w.result ≤ 128 = at_most l.invariant.1 c.loop-came-test.true _ _ l.invariant.0 w.ensures in
     sym (length-take-le _ _ (omega (arith, few, sized.2)))
 
 pub widen-requires : goal.widen-requires
 widen-requires c =
     let l = c.loop-came in
     let w = c.cells_trusting-came in
-    (l.invariant.1.widens.ready, batch_inside l.invariant.1 c.loop-came-test.true (cells_of l.vertices l.levels l.places) (cells_of w.new.vertices w.new.levels w.new.places) l.invariant.0 w.ensures (λ i. (c.shared_slice_known-2-1.given i).fits) c.requires.0)
+    (l.invariant.1.widens.ready, batch_inside l.invariant.1 c.loop-came-test.true _ _ l.invariant.0 w.ensures (λ i. (c.shared_slice_known-2-1.given i).fits) c.requires.0)
 
 pub slice_bounds-next_from-end : goal.slice_bounds-next_from-end
 slice_bounds-next_from-end c =
@@ -50,20 +50,20 @@ pub next_from-from-requires : goal.next_from-from-requires
 next_from-from-requires c =
     let l = c.loop-came in
     let w = c.cells_trusting-came in
-    (w.auto.vertices ∙ l.invariant.0.0, next_fits l.invariant.1 c.loop-came-test.true (cells_of l.vertices l.levels l.places) (cells_of w.new.vertices w.new.levels w.new.places) l.invariant.0 w.ensures)
+    (w.auto.vertices ∙ l.invariant.0.0, next_fits l.invariant.1 c.loop-came-test.true _ _ l.invariant.0 w.ensures)
 
 pub loop-came-smaller : goal.loop-came-smaller
 loop-came-smaller c =
     let l = c.loop-came in
     let w = c.cells_trusting-came in
-    going_less l.invariant.1 c.loop-came-test.true (cells_of l.vertices l.levels l.places) (cells_of w.new.vertices w.new.levels w.new.places) l.invariant.0 w.ensures c.next_from-from.ensures
+    going_less l.invariant.1 c.loop-came-test.true _ _ l.invariant.0 w.ensures c.next_from-from.ensures
 
 pub loop-came-preserved : goal.loop-came-preserved
 loop-came-preserved c =
     let l = c.loop-came in
     let w = c.cells_trusting-came in
     let sized : Sized (cells_of w.new.vertices w.new.levels w.new.places) = (w.auto.vertices ∙ l.invariant.0.0, w.auto.levels ∙ l.invariant.0.1, w.auto.places ∙ l.invariant.0.2) in
-    (sized, going_more l.invariant.1 c.loop-came-test.true (cells_of l.vertices l.levels l.places) (cells_of w.new.vertices w.new.levels w.new.places) l.invariant.0 w.ensures c.next_from-from.ensures sized.2 _ refl c.widen.ensures)
+    (sized, going_more l.invariant.1 c.loop-came-test.true _ _ l.invariant.0 w.ensures c.next_from-from.ensures sized.2 _ refl c.widen.ensures)
 
 pub shape_of-first : goal.shape_of-first
 shape_of-first c = c.loop-came.invariant.1.widens.ready.first_long ∙ sym c.requires.1.first_long

@@ -1,4 +1,4 @@
--- What the loop of `+gather` keeps, and how it ends.
+-- What the loop of `gather` keeps, and how it ends.
 use Prim.Native.Nat.{◌-◌, ◌≤◌}
 use mathlib.Core.Path.{◌≡◌}
 use lib.ListN.{length}
