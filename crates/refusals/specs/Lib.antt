@@ -1,0 +1,2 @@
+-- What the contracts of `refusals` cite.
+pub mod Refusals
