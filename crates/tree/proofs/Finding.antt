@@ -13,8 +13,11 @@ use borrow.Author.Tests.{le-leb, lt-leb}
 use Rattle.morton.specs.Level.{deepest, Cell, level, is_cell}
 use Rattle.morton.proofs.Levels.{eight, is_cell_lem, cell_level, level_le, eight_pos, eight_mono}
 use Rattle.morton.proofs.Fields.{cell_up, div_step}
+use Rattle.std.specs.Prelude.{Result, Ok, Err}
+use Rattle.refusals.specs.declared.Refusal.{Refusal}
+use Rattle.refusals.specs.declared.Refusal.TheVariants.{NotACell}
 use Rattle.tree.specs.declared.Lookup.{Lookup}
-use Rattle.tree.specs.declared.Lookup.TheVariants.{Found, Nothing, Refused}
+use Rattle.tree.specs.declared.Lookup.TheVariants.{Found, Nothing}
 use Rattle.tree.specs.Tree.{Tree, StandsAt, In, Sound}
 use Rattle.tree.specs.Down.{Nodes, nodes_of, first_at, leads, steps, reach, is_split, over, place_over, level_over, NodeOver, NodeSays}
 use Rattle.tree.specs.Climb.{ancestor, NoneDeeper, LookupSays, tried_in, distance_at, down_of, trusting_of}
@@ -115,15 +118,15 @@ module _ (n : Nodes) where
           at = ap (λ (m : ℕ). place_over n m x) (sym s) ∙ stop (place_over n) (λ l x e. place_next n l x e) l (L - l) x t ∙ g.at;
         }
 
-  pub going_end : (L x l place : ℕ) → L ≤ l → Going L x l place → NodeOver n L x l place
+  pub going_end : (L x l place : ℕ) → L ≤ l → Going L x l place → NodeOver n L x L place
   going_end L x l place h g =
       let e : l ≡ L = omega (arith, g.deep) in
       let z : L - l ≡ 0 = omega arith in
       let y : x / 8 ^ (L - l) ≡ x = ap (λ (m : ℕ). x / 8 ^ m) z ∙ div-one x in
       record {
-        no_deeper = g.deep;
-        is = ap₂ (over n) (sym e) (sym y) ∙ g.node;
-        its_level = ap₂ (level_over n) (sym e) (sym y) ∙ g.own;
+        no_deeper = omega arith;
+        is = ap₂ (over n) (sym e) (sym y) ∙ g.node ∙ ap (λ (m : ℕ). x / 8 ^ (L - m)) e;
+        its_level = ap₂ (level_over n) (sym e) (sym y) ∙ g.own ∙ e;
         at = ap₂ (place_over n) (sym e) (sym y) ∙ g.at;
       }
 
@@ -205,10 +208,10 @@ module _ (n : Nodes) (ds : List Float) (k l place : ℕ) (c : Cell (level k) k) 
 
 -- what trusts the tree, where it is or isn't a cell key
 module _ (n : Nodes) (ds : List Float) (k : ℕ) where
-  pub trusting_down : is_cell k ≡ true → down_of n ds k ≡ trusting_of n ds k
+  pub trusting_down : is_cell k ≡ true → Ok (down_of n ds k) ≡ trusting_of n ds k
   trusting_down c = rw c refl
 
-  pub trusting_refuses : is_cell k ≡ false → Refused 1 ≡ trusting_of n ds k
+  pub trusting_refuses : is_cell k ≡ false → Err NotACell ≡ trusting_of n ds k
   trusting_refuses c = rw c refl
 
 -- by the level and the place that the code has
@@ -216,13 +219,14 @@ module _ (n : Nodes) (ds : List Float) (k L l place : ℕ) (c : is_cell k ≡ tr
   own : NodeOver n (level k) k l place
   own = says_over n (level k) k l place (level_le k) (subst (λ (m : ℕ). NodeSays n m k l place) e v)
 
-  pub nothing_at : l ≡ 0 → Nothing L ≡ trusting_of n ds k
-  nothing_at z = ap Nothing e ∙ down_nothing n ds k l place (is_cell_lem k c) own z ∙ trusting_down n ds k c
+  pub nothing_at : l ≡ 0 → Ok (Nothing L) ≡ trusting_of n ds k
+  nothing_at z = ap Ok (ap Nothing e ∙ down_nothing n ds k l place (is_cell_lem k c) own z) ∙ trusting_down n ds k c
 
-  pub found_at : 0 < l → (key : ℕ) (d : Float) → key ≡ k / 8 ^ (L - l) → d ≡ distance_at ds place → Found key d place (L - l + 1) ≡ trusting_of n ds k
+  pub found_at : 0 < l → (key : ℕ) (d : Float) → key ≡ k / 8 ^ (L - l) → d ≡ distance_at ds place → Ok (Found key d place (L - l + 1)) ≡ trusting_of n ds k
   found_at p key d f g =
-      ap (λ (m : ℕ). Found key d place (m - l + 1)) e
-      ∙ down_found n ds k l place (is_cell_lem k c) own p key d (f ∙ ap (λ (m : ℕ). k / 8 ^ (m - l)) e) g
+      ap Ok
+      (ap (λ (m : ℕ). Found key d place (m - l + 1)) e
+      ∙ down_found n ds k l place (is_cell_lem k c) own p key d (f ∙ ap (λ (m : ℕ). k / 8 ^ (m - l)) e) g)
       ∙ trusting_down n ds k c
 
 -- ---- in a sound tree
@@ -284,7 +288,7 @@ module _ (t : Tree) (S : Sound t) where
                 (order j (suc L));
           }
 
-  pub down_says : (asked : ℕ) → is_cell asked ≡ true → LookupSays t asked (down_of (nodes t) t.distances asked)
+  pub down_says : (asked : ℕ) → is_cell asked ≡ true → LookupSays t asked (Ok (down_of (nodes t) t.distances asked))
   unfolding down_of
   down_says asked c = go (order v.lev 1)
     where
@@ -300,7 +304,7 @@ module _ (t : Tree) (S : Sound t) where
       lev_is : level (over (nodes t) (level asked) asked) ≡ v.lev
       lev_is = cell_level v.lev (over (nodes t) (level asked) asked) (omega (arith, v.no_deeper, level_le asked)) is_cell_of
 
-      go : (v.lev < 1) ⊎ (1 ≤ v.lev) → LookupSays t asked (down_of (nodes t) t.distances asked)
+      go : (v.lev < 1) ⊎ (1 ≤ v.lev) → LookupSays t asked (Ok (down_of (nodes t) t.distances asked))
       go (inl z) =
           let h : over (nodes t) (level asked) asked < 8 = omega (arith, is_cell_of.high, ap (λ (m : ℕ). 8 ^ m) (zero_is v.lev z)) in
           rw (lt-leb 8 (over (nodes t) (level asked) asked) h) (S, c, (λ j a b m. v.none j (omega arith) b m), refl)
@@ -330,10 +334,10 @@ trusting_lookup t S asked =
     (λ c. subst (LookupSays t asked) (trusting_refuses (nodes t) t.distances asked c) (inr (S, c, refl)))
 
 -- at most 21 keys are tried
-pub tried_most : (t : Tree) (asked : ℕ) (r : Lookup) → LookupSays t asked r → tried_in r ≤ deepest
-tried_most t asked (Found key distance place tried) (_, _, d) = omega (arith, d.count, d.not_root, level_le asked)
-tried_most t asked (Nothing tried) (_, _, _, e) = omega (arith, level_le asked)
-tried_most t asked (Refused n) s = omega arith
+pub tried_most : (t : Tree) (asked : ℕ) (r : Result Lookup Refusal) → LookupSays t asked r → tried_in r ≤ deepest
+tried_most t asked (Ok (Found key distance place tried)) (_, _, d) = omega (arith, d.count, d.not_root, level_le asked)
+tried_most t asked (Ok (Nothing tried)) (_, _, _, e) = omega (arith, level_le asked)
+tried_most t asked (Err e) s = omega arith
 
 -- ---- always found, unless the root is alone
 

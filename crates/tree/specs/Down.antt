@@ -1,6 +1,7 @@
 -- The node over a cell, found by going down from the root, on any tables at all: no tree need be sound. Assumes nothing.
 use Rattle.std.specs.Prelude.{ℕ, zero, suc, ◌+◌, ◌-◌, ◌*◌, ◌/◌, ◌%◌, ◌^◌, ◌≤◌, ◌<◌, ◌≡◌, Bool, ◌&&◌, ◌⊎◌, List, eqb, ltb, length, get_or}
 use Rattle.morton.specs.Level.{if₀, deepest}
+use Rattle.tree.specs.declared.Nodes as lent
 
 -- The tables that the way down reads: node keys, and for each node the place of its first child.
 pub record Nodes : Type 0 where
@@ -9,6 +10,10 @@ pub record Nodes : Type 0 where
 
 abbrev pub nodes_of : List ℕ → List ℕ → Nodes
 nodes_of keys firsts = record { keys = keys; firsts = firsts }
+
+-- As the code has them.
+abbrev pub the_nodes : lent.Nodes → Nodes
+the_nodes n = nodes_of n.keys.now n.firsts.now
 
 -- What the table says at a place; 0 past its end.
 unfoldable pub first_at : Nodes → ℕ → ℕ

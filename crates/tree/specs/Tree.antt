@@ -3,6 +3,7 @@ use Rattle.std.specs.Prelude.{ℕ, ◌+◌, ◌*◌, ◌≤◌, ◌<◌, ◌≡�
 use Rattle.std.specs.Float.{nan}
 use Rattle.std.specs.Float.Ieee.Scale.{finite}
 use Rattle.morton.specs.Level.{limit, Cell, level, parent_of}
+use Rattle.tree.specs.declared.Tree as lent
 
 -- Node keys, node distances, for each node the place of its first child, and leaf keys.
 pub record Tree : Type 0 where
@@ -13,6 +14,10 @@ pub record Tree : Type 0 where
 
 abbrev pub tree_of : List ℕ → List Float → List ℕ → List ℕ → Tree
 tree_of keys distances firsts leaves = record { keys = keys; distances = distances; firsts = firsts; leaves = leaves }
+
+-- As the code has it.
+abbrev pub the_tree : lent.Tree → Tree
+the_tree t = tree_of t.nodes.keys.now t.distances.now t.nodes.firsts.now t.leaves.now
 
 -- k stands at a place of a list.
 pub record StandsAt (ks : List ℕ) (place k : ℕ) : Type 0 where

@@ -6,7 +6,7 @@ use mathlib.Core.Logic.{inl, inr}
 use native.Mathlib.Omega.{arith}
 use Rattle.tree.proofs.Down.{leads_in}
 use Rattle.tree.proofs.Finding.{going_none, going_more, going_stop, going_end, shifted}
-use Rattle.tree.proofs.go_down.Goals as goal
+use Rattle.tree.proofs.Nodes.go_down.Goals as goal
 
 pub returns-then-level-gt-DEEPEST : goal.returns-then-level-gt-DEEPEST
 returns-then-level-gt-DEEPEST c = inr (omega arith, refl, refl)

@@ -2,7 +2,7 @@
 use mathlib.Core.Path.{sym}
 use native.Mathlib.Omega.{arith}
 use Rattle.tree.proofs.Down.{leads_none, leads_past, leads_key}
-use Rattle.tree.proofs.leads.Goals as goal
+use Rattle.tree.proofs.Nodes.leads.Goals as goal
 
 pub returns-then-first-ne1 : goal.returns-then-first-ne1
 returns-then-first-ne1 c = sym (leads_none _ _ _ c.if-first-ne1.true)

@@ -3,7 +3,7 @@ use mathlib.Core.Path.{sym, ◌∙◌}
 use native.Mathlib.Omega.{arith}
 use Rattle.morton.proofs.Levels.{level_le}
 use Rattle.tree.proofs.Finding.{shifted, says_deep, found_at, nothing_at, trusting_refuses}
-use Rattle.tree.proofs.look_up_trusting.Goals as goal
+use Rattle.tree.proofs.Nodes.look_up_trusting.Goals as goal
 
 pub returns-then-not-is_cell : goal.returns-then-not-is_cell
 returns-then-not-is_cell c = trusting_refuses _ _ _ (sym c.is_cell.ensures ∙ c.if-not-is_cell.true)

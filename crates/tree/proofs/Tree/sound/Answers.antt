@@ -3,16 +3,16 @@ use Rattle.tree.proofs.Pass.{seen_none, seen_more, after_split, after_leaf, acce
 use mathlib.Core.Path.{sym, ◌∙◌}
 use mathlib.Core.Bool.{true≢false}
 use native.Mathlib.Omega.{arith}
-use Rattle.tree.proofs.sound.Goals as goal
+use Rattle.tree.proofs.Tree.sound.Goals as goal
 
 pub loop-i-init : goal.loop-i-init
 loop-i-init c = seen_none _ _ _ _ (said c.stands.result _ (c.if-not-stands.false) c.stands.ensures)
 
 pub loop-i-preserved-then-stands : goal.loop-i-preserved-then-stands
-loop-i-preserved-then-stands c = seen_more c.loop-i.invariant (sym c.is_finite.ensures ∙ c.if-not-is_finite.false) (after_split c.loop-i.invariant.walked c.loop-i-test.true (omega arith) (said c.eight_at.result _ (c.if-not-eight_at.false) c.eight_at.ensures) (sym c.wide.ensures ∙ c.if-wide-child.false))
+loop-i-preserved-then-stands c = seen_more c.loop-i.invariant (sym c.is_finite.ensures ∙ c.if-not-is_finite.false) (after_split c.loop-i.invariant.walked c.loop-i-test.true (omega arith) (said c.eight_at.result _ (c.if-not-eight_at.false) c.eight_at.ensures) (sym c.from.ensures ∙ c.if-from-child.false))
 
 pub loop-i-preserved : goal.loop-i-preserved
-loop-i-preserved c = seen_more c.loop-i.invariant (sym c.is_finite.ensures ∙ c.if-not-is_finite.false) (after_leaf c.loop-i.invariant.walked c.loop-i-test.true (said c.stands-else-stands.result _ (c.if-not-stands-2.false) c.stands-else-stands.ensures) (sym c.wide-else-stands.ensures ∙ c.if-wide-ne0.false))
+loop-i-preserved c = seen_more c.loop-i.invariant (sym c.is_finite.ensures ∙ c.if-not-is_finite.false) (after_leaf c.loop-i.invariant.walked c.loop-i-test.true (said c.stands-else-stands.result _ (c.if-not-stands-2.false) c.stands-else-stands.ensures) c.if-firsts-i-ne0.false)
 
 pub returns-then-distances-keys : goal.returns-then-distances-keys
 returns-then-distances-keys c = λ S. c.if-distances-keys.true (sym S.as_many)
@@ -32,14 +32,14 @@ returns-then-k-top c = λ S. not_too_deep c.loop-i.invariant.walked S (said _ _ 
 pub returns-then-not-eight_at : goal.returns-then-not-eight_at
 returns-then-not-eight_at c = λ S. denied c.eight_at.result _ (c.if-not-eight_at.true) c.eight_at.ensures (all_eight c.loop-i.invariant.walked S c.loop-i-test.true (said _ _ c.if-stands.true c.stands-in-loop-i.ensures))
 
-pub returns-then-wide-child : goal.returns-then-wide-child
-returns-then-wide-child c = λ S. c.if-wide-child.true (c.wide.ensures ∙ first_here c.loop-i.invariant.walked S c.loop-i-test.true (said _ _ c.if-stands.true c.stands-in-loop-i.ensures))
+pub returns-then-from-child : goal.returns-then-from-child
+returns-then-from-child c = λ S. c.if-from-child.true (c.from.ensures ∙ first_here c.loop-i.invariant.walked S c.loop-i-test.true (said _ _ c.if-stands.true c.stands-in-loop-i.ensures))
 
 pub returns-then-not-stands-2 : goal.returns-then-not-stands-2
 returns-then-not-stands-2 c = λ S. denied c.stands-else-stands.result _ (c.if-not-stands-2.true) c.stands-else-stands.ensures (leaf_next c.loop-i.invariant.walked S c.loop-i-test.true (denied _ _ c.if-stands.false c.stands-in-loop-i.ensures))
 
-pub returns-then-wide-ne0 : goal.returns-then-wide-ne0
-returns-then-wide-ne0 c = λ S. c.if-wide-ne0.true (c.wide-else-stands.ensures ∙ first_none c.loop-i.invariant.walked S c.loop-i-test.true (denied _ _ c.if-stands.false c.stands-in-loop-i.ensures))
+pub returns-then-firsts-i-ne0 : goal.returns-then-firsts-i-ne0
+returns-then-firsts-i-ne0 c = λ S. c.if-firsts-i-ne0.true (first_none c.loop-i.invariant.walked S c.loop-i-test.true (denied _ _ c.if-stands.false c.stands-in-loop-i.ensures))
 
 pub returns-then-child-keys : goal.returns-then-child-keys
 returns-then-child-keys c = λ S. no_more_keys c.loop-i.invariant.walked S c.loop-i-test.false (omega arith)

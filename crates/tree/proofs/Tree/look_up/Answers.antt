@@ -4,7 +4,7 @@ use mathlib.Core.Logic.{inl}
 use Rattle.tree.specs.Climb.{LookupSays}
 use Rattle.tree.proofs.Pass.{said, denied}
 use Rattle.tree.proofs.Finding.{trusting_lookup}
-use Rattle.tree.proofs.look_up.Goals as goal
+use Rattle.tree.proofs.Tree.look_up.Goals as goal
 
 pub returns-then-not-sound : goal.returns-then-not-sound
 returns-then-not-sound c = inl (denied c.sound.result _ (c.if-not-sound.true) c.sound.ensures, refl)
