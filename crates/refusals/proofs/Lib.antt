@@ -1,0 +1,3 @@
+-- The laws of `refusals`.
+pub mod Numbers
+pub mod One
