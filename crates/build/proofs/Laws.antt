@@ -7,19 +7,21 @@ use native.Mathlib.Nat.{zero-mul}
 use native.Mathlib.Decide.{dec_lt}
 use native.Mathlib.Omega.{arith}
 use lib.Dec.{eqb, leb, ltb}
-use borrow.Author.Tests.{not-false, eqb-true, eqb-false, leb-true, ltb-false, le-leb, lt-leb, lt-ltb, le-ltb, eq-eqb, ne_eqb}
+use borrow.Author.Tests.{not-false, eqb-true, eqb-false, leb-true, ltb-false, le-leb, lt-leb, lt-ltb, le-ltb, ne_eqb}
 use lib.IntN.{ℤ}
 use lib.Ieee.{Float, fin, up, down}
 use lib.Ieee.Scale.{finite}
 use Rattle.morton.specs.Level.{Cell, deepest, limit, level, is_cell}
 use Rattle.morton.specs.Split.{at_most, near, splits}
 use Rattle.morton.proofs.Levels.{level_le, and_true, is_cell_lem, cell_is, cell_level, cell_lt}
+use Rattle.std.specs.Prelude.{⊤, Result, Ok, Err}
+use Rattle.refusals.specs.declared.Refusal.{Refusal}
+use Rattle.refusals.specs.declared.Refusal.TheVariants.{NotFitting}
 use Rattle.build.specs.declared.Answer.{Answer}
-use Rattle.build.specs.declared.Answer.TheVariants.{Refused}
 use Rattle.build.specs.declared.Lengths.{Lengths}
 use Rattle.build.specs.declared.State.{State}
 use Rattle.build.specs.Build.{Tables, Ready, Outcome, outcome, lengths_of, node_room, finest, cell_to, leaves_of}
-use Rattle.build.specs.Build.{same_lengths, counts_fit, idle_fits, busy_fits, fits_at, full_of, refusal_at, refusal_of, split_of, stored_of, advance_of, decide_of, accept_of, distance_of}
+use Rattle.build.specs.Build.{same_lengths, counts_fit, idle_fits, busy_fits, fits_at, allowed, full_of, refusal_at, refusal_of, split_of, stored_of, advance_of, decide_of, accept_of, distance_of}
 
 -- ---- cell keys of bounded level
 
@@ -145,36 +147,39 @@ asked s z next room top n h =
 
 -- ---- a call that isn't refused
 
-cond_zero : (b : Bool) (x y : ℕ) → 0 < x → cond b x y ≡ 0 → (b ≡ false) × (y ≡ 0)
-cond_zero true x y p h = absurd (omega arith)
-cond_zero false x y p h = (refl, h)
+pub allows_not : (e : Refusal) → ◌≡◌ {A = Result ⊤ Refusal} (Err e) allowed → ⊥
+allows_not e h = let z : ◌≡◌ {A = ℕ} 0 1 = cc in absurd (omega arith)
+
+pub cond_allowed : (b : Bool) (e : Refusal) (y : Result ⊤ Refusal) → cond b (Err e) y ≡ allowed → (b ≡ false) × (y ≡ allowed)
+cond_allowed true e y h = absurd (allows_not e h)
+cond_allowed false e y h = (refl, h)
 
 pub record Passed (s : State) (split : Bool) (d : Float) (z : Lengths) (next room top : ℕ) : Type 0 where
   pub asks : s.asked ≡ 0 → ⊥
   pub state : Asked s z next room top
   pub known : finite d ≡ true
   pub nodes : s.nodes < room
-  pub full : full_of s split ≡ 0
+  pub full : full_of s split ≡ allowed
 
-pub passed : (s : State) (split : Bool) (d : Float) (z : Lengths) (next room top : ℕ) → refusal_at s z next split d room top ≡ 0 → Passed s split d z next room top
+pub passed : (s : State) (split : Bool) (d : Float) (z : Lengths) (next room top : ℕ) → refusal_at s z next split d room top ≡ allowed → Passed s split d z next room top
 unfolding refusal_at
 passed s split d z next room top h =
-    let h1 = cond_zero (not (fits_at s z next room top)) _ _ (omega arith) h in
-    let h2 = cond_zero (eqb s.asked 0) _ _ (omega arith) h1.1 in
-    let h3 = cond_zero (not (finite d)) _ _ (omega arith) h2.1 in
-    let h4 = cond_zero (eqb s.nodes room) _ _ (omega arith) h3.1 in
+    let h1 = cond_allowed (not (fits_at s z next room top)) _ _ h in
+    let h2 = cond_allowed (eqb s.asked 0) _ _ h1.1 in
+    let h3 = cond_allowed (not (finite d)) _ _ h2.1 in
+    let h4 = cond_allowed (eqb s.nodes room) _ _ h3.1 in
     let n = eqb-false _ _ h2.0 in
     let k = asked s z next room top n (not-false (fits_at s z next room top) h1.0) in
     let r = eqb-false s.nodes room h4.0 in
     record { asks = n; state = k; known = not-false (finite d) h3.0; nodes = let l = k.counted.room in omega arith; full = h4.1 }
 
-pub full_leaf : (s : State) → full_of s false ≡ 0 → s.leaves ≡ s.lengths.leaves → ⊥
+pub full_leaf : (s : State) → full_of s false ≡ allowed → s.leaves ≡ s.lengths.leaves → ⊥
 unfolding full_of
-full_leaf s h = eqb-false _ _ (cond_zero (eqb s.leaves s.lengths.leaves) _ _ (omega arith) h).0
+full_leaf s h = eqb-false _ _ (cond_allowed (eqb s.leaves s.lengths.leaves) _ _ h).0
 
-pub full_ring : (s : State) → full_of s true ≡ 0 → 7 * s.nodes - 8 * s.leaves + 8 ≤ s.lengths.queue
+pub full_ring : (s : State) → full_of s true ≡ allowed → 7 * s.nodes - 8 * s.leaves + 8 ≤ s.lengths.queue
 unfolding full_of
-full_ring s h = ltb-false _ _ (cond_zero (ltb s.lengths.queue (7 * s.nodes - 8 * s.leaves + 8)) _ _ (omega arith) h).0
+full_ring s h = ltb-false _ _ (cond_allowed (ltb s.lengths.queue (7 * s.nodes - 8 * s.leaves + 8)) _ _ h).0
 
 -- ---- the whole call
 
@@ -184,7 +189,7 @@ ready_leaves s true t m r e = (r.small, omega (arith, r.few))
 ready_leaves s false t m r e = (r.small, omega (arith, r.few))
 
 pub accept_is : (s : State) (split : Bool) (d : Float) (t : Tables) (m : ℕ) (a : Answer) (t' : Tables) → m ≡ leaves_of s split → t' ≡ stored_of s split d t
-    → a ≡ advance_of s m t'.queue → outcome a t' ≡ accept_of s split d t
+    → a ≡ advance_of s m t'.queue → outcome (Ok a) t' ≡ accept_of s split d t
 unfolding accept_of stored_of
 accept_is s split d t m a t' l e f = rw (f, l, e)
 
@@ -192,23 +197,23 @@ and_false : (a : Bool) → (a && false) ≡ false
 and_false true = refl
 and_false false = refl
 
-pub refused : (s : State) (split : Bool) (d : Float) (t : Tables) (k : ℕ) → k ≡ refusal_of s split d t → (k ≡ 0 → ⊥) → outcome (Refused k) t ≡ decide_of s split d t
+pub refused : (s : State) (split : Bool) (d : Float) (t : Tables) (e : Refusal) → refusal_of s split d t ≡ Err e → outcome (Err e) t ≡ decide_of s split d t
 unfolding decide_of
-refused s split d t k e n = rw (← e, ne_eqb _ _ n)
+refused s split d t e h = rw h refl
 
-pub deep_refused : (s : State) (split : Bool) (d : Float) (t : Tables) → limit < s.bound → outcome (Refused 10) t ≡ decide_of s split d t
+pub deep_refused : (s : State) (split : Bool) (d : Float) (t : Tables) → limit < s.bound → outcome (Err NotFitting) t ≡ decide_of s split d t
 unfolding refusal_of refusal_at fits_at counts_fit
-deep_refused s split d t h = refused s split d t 10 (rw (lt-leb s.bound limit h, and_false) refl) (λ e. omega arith)
+deep_refused s split d t h = refused s split d t NotFitting (rw (lt-leb s.bound limit h, and_false) refl)
 
-pub accepted : (s : State) (split : Bool) (d : Float) (t : Tables) → refusal_of s split d t ≡ 0 → accept_of s split d t ≡ decide_of s split d t
+pub accepted : (s : State) (split : Bool) (d : Float) (t : Tables) → refusal_of s split d t ≡ allowed → accept_of s split d t ≡ decide_of s split d t
 unfolding decide_of
-accepted s split d t e = rw (eq-eqb _ _ e)
+accepted s split d t h = rw h refl
 
 finest_small : (bound : ℕ) → bound ≤ limit → finest bound ≤ limit
 unfolding finest
 finest_small bound h = omega arith
 
-pub ready : (s : State) (split : Bool) (d : Float) (t : Tables) → refusal_of s split d t ≡ 0 → Ready s split t
+pub ready : (s : State) (split : Bool) (d : Float) (t : Tables) → refusal_of s split d t ≡ allowed → Ready s split t
 unfolding refusal_of lengths_of node_room
 ready s split d t h =
     let p = passed s split d _ _ _ _ h in
@@ -222,20 +227,20 @@ ready s split d t h =
       small = omega (arith, p.nodes);
       few = k.few;
       key = cell_short (finest s.bound) s.asked f p.state.cell;
-      leaf_room = λ n. let l = full_leaf s (subst (λ (b : Bool). full_of s b ≡ 0) n p.full) in omega (arith, k.leaf_room, e.leaves);
-      ring_room = λ n. let l = full_ring s (subst (λ (b : Bool). full_of s b ≡ 0) n p.full) in omega (arith, e.queue);
+      leaf_room = λ n. let l = full_leaf s (subst (λ (b : Bool). full_of s b ≡ allowed) n p.full) in omega (arith, k.leaf_room, e.leaves);
+      ring_room = λ n. let l = full_ring s (subst (λ (b : Bool). full_of s b ≡ allowed) n p.full) in omega (arith, e.queue);
     }
 
--- ---- a call, by the number that it found
+-- ---- a call, by what the test found
 
-module _ (s : State) (t : Tables) (d : Float) (k : ℕ) (e : k ≡ refusal_of s (split_of s d) d t) where
-  pub call_refused : (k ≡ 0 → ⊥) → outcome (Refused k) t ≡ distance_of s d t
+module _ (s : State) (t : Tables) (d : Float) {r : Result ⊤ Refusal} (h : r ≡ refusal_of s (split_of s d) d t) where
+  pub call_refused : (e : Refusal) → r ≡ Err e → outcome (Err e) t ≡ distance_of s d t
   unfolding distance_of
-  call_refused n = refused s (split_of s d) d t k e n
+  call_refused e f = refused s (split_of s d) d t e (sym h ∙ f)
 
-  pub call_ready : (split : Bool) → split ≡ split_of s d → k ≡ 0 → Ready s split t
-  call_ready split f z = rw f (ready s (split_of s d) d t (sym e ∙ z))
+  pub call_ready : (split : Bool) → split ≡ split_of s d → r ≡ allowed → Ready s split t
+  call_ready split f z = rw f (ready s (split_of s d) d t (sym h ∙ z))
 
-  pub call_accepted : (split : Bool) → split ≡ split_of s d → k ≡ 0 → (o : Outcome) → o ≡ accept_of s split d t → o ≡ distance_of s d t
+  pub call_accepted : (split : Bool) → split ≡ split_of s d → r ≡ allowed → (o : Outcome) → o ≡ accept_of s split d t → o ≡ distance_of s d t
   unfolding distance_of
-  call_accepted split f z o a = rw f at a ∙ accepted s (split_of s d) d t (sym e ∙ z)
+  call_accepted split f z o a = rw f at a ∙ accepted s (split_of s d) d t (sym h ∙ z)

@@ -68,7 +68,6 @@ children_at (suc i) q k item w l h = pick (dec_lt w i) (λ p. children_at i q k 
 -- ---- the loop that stores them
 
 pub record Putting (q₀ : List ℕ) (k item : ℕ) (q : List ℕ) (at i : ℕ) : Type 0 where
-  pub upto : i ≤ 8
   pub place : at ≡ (item + i) % length q₀
   pub stored : q ≡ children_to i q₀ k item
 
@@ -84,17 +83,16 @@ putting_still q₀ k item q at i v p h = rw (length-set q at v) (putting_inside 
 
 pub putting_start : (q₀ : List ℕ) (k item at : ℕ) → at ≡ item % length q₀ → Putting q₀ k item q₀ at 0
 unfolding children_to
-putting_start q₀ k item at e = record { upto = omega arith; place = e ∙ ap (λ (x : ℕ). x % length q₀) (omega arith); stored = refl }
+putting_start q₀ k item at e = record { place = e ∙ ap (λ (x : ℕ). x % length q₀) (omega arith); stored = refl }
 
-pub putting_more : (q₀ : List ℕ) (k item : ℕ) (q : List ℕ) (at i at' : ℕ) → Putting q₀ k item q at i → i < 8 → at' ≡ (at + 1) % length (set q at (8 * k + i))
+pub putting_more : (q₀ : List ℕ) (k item : ℕ) (q : List ℕ) (at i at' : ℕ) → Putting q₀ k item q at i → at' ≡ (at + 1) % length (set q at (8 * k + i))
     → Putting q₀ k item (set q at (8 * k + i)) at' (i + 1)
 unfolding children_to
-putting_more q₀ k item q at i at' p h e =
+putting_more q₀ k item q at i at' p e =
     let l = putting_length q₀ k item q at i p in
     let w : ((item + i) % length q₀ + 1) % length q₀ ≡ (item + (i + 1)) % length q₀ =
     mod-add-mod (item + i) (length q₀) 1 ∙ ap (λ (x : ℕ). x % length q₀) (omega arith) in
     record {
-      upto = omega arith;
       place = e ∙ ap (λ (x : ℕ). (at + 1) % x) (length-set q at (8 * k + i) ∙ l) ∙ ap (λ (x : ℕ). (x + 1) % length q₀) p.place ∙ w;
       stored = rw (add-one i, p.stored, p.place);
     }

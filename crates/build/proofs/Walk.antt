@@ -39,6 +39,13 @@ via_not_true r t e h = sym e ∙ not-true r h
 pub via_not_false : (r t : Bool) → r ≡ t → not r ≡ false → t ≡ true
 via_not_false r t e h = sym e ∙ not-false r h
 
+-- the same where a call says that two values differ
+pub via_ne_true : (r t : Bool) → r ≡ not t → r ≡ true → t ≡ false
+via_ne_true r t e h = not-true t (sym e ∙ h)
+
+pub via_ne_false : (r t : Bool) → r ≡ not t → r ≡ false → t ≡ true
+via_ne_false r t e h = not-false t (sym e ∙ h)
+
 pub not_yes : (t : Bool) → t ≡ false → not t ≡ true
 not_yes t h = rw h refl
 

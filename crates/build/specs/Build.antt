@@ -1,15 +1,17 @@
 -- Building, one request at a time: document 01's rules as functions. Assumes nothing.
-use Rattle.std.specs.Prelude.{ℕ, zero, suc, ◌+◌, ◌-◌, ◌*◌, ◌%◌, ◌^◌, ◌≤◌, ◌<◌, min, max, ◌≡◌, Bool, true, false, cond, ◌&&◌, ◌||◌, not, List, eqb, leb, ltb, negsuc, length, get_or, set, Float}
+use Rattle.std.specs.Prelude.{ℕ, zero, suc, ◌+◌, ◌-◌, ◌*◌, ◌%◌, ◌^◌, ◌≤◌, ◌<◌, min, max, ◌≡◌, Bool, true, false, cond, ◌&&◌, ◌||◌, not, List, eqb, leb, ltb, negsuc, length, get_or, set, Float, ⊤, Result, Ok, Err}
 use Rattle.std.specs.Float.{fin}
 use Rattle.std.specs.Float.Ieee.Scale.{finite}
 use Rattle.morton.specs.Level.{limit, level, is_cell}
 use Rattle.morton.specs.Field.{coord}
 use Rattle.morton.specs.Split.{splits}
+use Rattle.refusals.specs.declared.Refusal.{Refusal}
+use Rattle.refusals.specs.declared.Refusal.TheVariants.{AboveFifteen, NodesFull, LeavesFull, QueueFull, NothingAsked, NotFitting, NotFinite}
 use Rattle.build.specs.declared.Lengths.{Lengths}
 use Rattle.build.specs.declared.Request.{Request}
 use Rattle.build.specs.declared.State.{State}
 use Rattle.build.specs.declared.Answer.{Answer}
-use Rattle.build.specs.declared.Answer.TheVariants.{Ask, Finished, Refused}
+use Rattle.build.specs.declared.Answer.TheVariants.{Ask, Finished}
 
 -- Lent: node keys, node distances, first children, leaf keys, a queue.
 pub record Tables : Type 0 where
@@ -102,25 +104,29 @@ fits_at s z next room top = same_lengths s.lengths z && (counts_fit s z room && 
 unfoldable pub fits : State → Tables → Bool
 fits s t = fits_at s (lengths_of t) (item_at t.queue s.nodes) (node_room (lengths_of t)) (finest s.bound)
 
--- ---- the number given for no, or 0
+-- ---- why a call is refused, if it is
+
+-- The call is allowed.
+abbrev pub allowed : Result ⊤ Refusal
+allowed = Ok tt
 
 -- 7: unsplit and m equals leaf room. 8: split and 7n - 8m + 8 above queue length.
-unfoldable pub full_of : State → Bool → ℕ
+unfoldable pub full_of : State → Bool → Result ⊤ Refusal
 full_of s split =
     cond split
-    (cond (ltb s.lengths.queue (7 * s.nodes - 8 * s.leaves + 8)) 8 0)
-    (cond (eqb s.leaves s.lengths.leaves) 7 0)
+    (cond (ltb s.lengths.queue (7 * s.nodes - 8 * s.leaves + 8)) (Err QueueFull) allowed)
+    (cond (eqb s.leaves s.lengths.leaves) (Err LeavesFull) allowed)
 
--- 10, 9, 16, 6, then 7 or 8. An infinite or NaN distance is refused with 16.
-unfoldable pub refusal_at : State → Lengths → ℕ → Bool → Float → ℕ → ℕ → ℕ
+-- 10, 9, 16, 6, then 7 or 8.
+unfoldable pub refusal_at : State → Lengths → ℕ → Bool → Float → ℕ → ℕ → Result ⊤ Refusal
 refusal_at s z next split d room top =
-    cond (not (fits_at s z next room top)) 10
-    (cond (eqb s.asked 0) 9
-    (cond (not (finite d)) 16
-    (cond (eqb s.nodes room) 6
+    cond (not (fits_at s z next room top)) (Err NotFitting)
+    (cond (eqb s.asked 0) (Err NothingAsked)
+    (cond (not (finite d)) (Err NotFinite)
+    (cond (eqb s.nodes room) (Err NodesFull)
     (full_of s split))))
 
-unfoldable pub refusal_of : State → Bool → Float → Tables → ℕ
+unfoldable pub refusal_of : State → Bool → Float → Tables → Result ⊤ Refusal
 refusal_of s split d t =
     refusal_at s (lengths_of t) (item_at t.queue s.nodes) split d (node_room (lengths_of t)) (finest s.bound)
 
@@ -173,31 +179,33 @@ advance_of s m queue =
 
 -- What a call answers, and the tables as it leaves them.
 pub record Outcome : Type 0 where
-  pub answer : Answer
+  pub answer : Result Answer Refusal
   pub tables : Tables
 
-abbrev pub outcome : Answer → Tables → Outcome
+abbrev pub outcome : Result Answer Refusal → Tables → Outcome
 outcome a t = record { answer = a; tables = t }
 
 unfoldable pub accept_of : State → Bool → Float → Tables → Outcome
 accept_of s split d t =
-    outcome (advance_of s (leaves_of s split) (queue_of s split t)) (stored_of s split d t)
+    outcome (Ok (advance_of s (leaves_of s split) (queue_of s split t))) (stored_of s split d t)
+
+-- What is done where the call is allowed, else nothing.
+abbrev pub unless_refused : Result ⊤ Refusal → Outcome → Tables → Outcome
+unless_refused (Ok u) done t = done
+unless_refused (Err e) done t = outcome (Err e) t
 
 -- The asked cell is split or not; a refused call changes nothing.
 unfoldable pub decide_of : State → Bool → Float → Tables → Outcome
-decide_of s split d t =
-    cond (eqb (refusal_of s split d t) 0)
-    (accept_of s split d t)
-    (outcome (Refused (refusal_of s split d t)) t)
+decide_of s split d t = unless_refused (refusal_of s split d t) (accept_of s split d t) t
 
 unfoldable pub distance_of : State → Float → Tables → Outcome
 distance_of s d t = decide_of s (split_of s d) d t
 
 -- A start takes a depth bound 0 to 15, else 5. The root is asked for first.
-unfoldable pub start_of : ℕ → Tables → Answer
+unfoldable pub start_of : ℕ → Tables → Result Answer Refusal
 start_of bound t =
-    cond (ltb limit bound) (Refused 5)
-    (Ask (request_of 1) (record { bound = bound; nodes = 0; leaves = 0; asked = 1; lengths = lengths_of t }))
+    cond (ltb limit bound) (Err AboveFifteen)
+    (Ok (Ask (request_of 1) (record { bound = bound; nodes = 0; leaves = 0; asked = 1; lengths = lengths_of t })))
 
 -- ---- for the private steps
 

@@ -1,18 +1,19 @@
 #![tactic(auto)]
 // The octree over a distance field, built one request at a time. From `build` in src/linear_hashed_octree.rs of isosurface 0.0.4: its hash
 // map and queue are tables that the host lends, and its closures are requests that the host answers.
-ghost use Rattle.std.specs.Prelude.{◌≡◌, ◌+◌, ◌*◌, ◌%◌, ◌<◌, ◌≤◌, ◌^◌, min, length};
+ghost use Rattle.std.specs.Prelude.{◌≡◌, ◌+◌, ◌*◌, ◌%◌, ◌<◌, ◌≤◌, ◌^◌, min, length, Ok};
 ghost use Rattle.build.specs.Build.{tables_of, lengths_of, node_room, finest, item_at, request_of, cell_to, Ready};
 ghost use Rattle.build.specs.Build.{same_lengths, counts_fit, idle_fits, busy_fits, fits_at, full_of, refusal_at, refusal_of, split_of};
 ghost use Rattle.build.specs.Build.{children_to, leaves_of, stored_of, advance_of, accept_of, distance_of, start_of, outcome};
 
 use morton::Key;
+use refusals::Refusal;
 
 // No build has more nodes.
 const MOST_NODES: usize = 4096;
 
 // How long the lent tables are.
-#[derive(Clone, Copy)]
+#[derive(Clone, Copy, Debug, PartialEq, Eq)]
 pub struct Lengths {
     pub keys: usize,
     pub distances: usize,
@@ -41,12 +42,11 @@ pub struct State {
     pub lengths: Lengths,
 }
 
-// What to ask for next, if anything, or the number of the refusal.
+// What to ask for next, if anything.
 #[derive(Clone, Copy)]
 pub enum Answer {
     Ask(Request, State),
     Finished(State),
-    Refused(u32),
 }
 
 // The request for a cell.
@@ -55,7 +55,7 @@ fn ask_for(key: u64) -> Request
 {
     let e = Key { code: key }.extent();
     Request {
-        key: key,
+        key,
         x: e.x,
         y: e.y,
         z: e.z,
@@ -110,24 +110,11 @@ fn item_at(queue: &[u64], item: usize) -> u64
     }
 }
 
-// The level of the finest grid.
-fn finest_level(bound: u32) -> u32
-    ensures { result ≡ finest bound }
-{
-    if bound <= 2 { 2 } else { bound }
-}
-
-fn shorter(a: usize, b: usize) -> usize
-    ensures { result ≡ min a b }
-{
-    if a <= b { a } else { b }
-}
-
 // How many nodes there is room for.
 fn node_room(z: Lengths) -> usize
     ensures { result ≡ node_room z }
 {
-    shorter(shorter(shorter(z.keys, z.distances), z.firsts), MOST_NODES)
+    z.keys.min(z.distances).min(z.firsts).min(MOST_NODES)
 }
 
 // Whether the key is a cell key of level at most `top`.
@@ -139,25 +126,6 @@ fn is_cell_to(key: u64, top: u32) -> bool
         return false;
     }
     cell.level() <= top
-}
-
-// Whether the tables are as long as they were at the start.
-fn same_lengths(a: Lengths, b: Lengths) -> bool
-    ensures { result ≡ same_lengths a b }
-{
-    if a.keys != b.keys {
-        return false;
-    }
-    if a.distances != b.distances {
-        return false;
-    }
-    if a.firsts != b.firsts {
-        return false;
-    }
-    if a.leaves != b.leaves {
-        return false;
-    }
-    a.queue == b.queue
 }
 
 // Whether bound and counts are within the limit and the rooms.
@@ -214,7 +182,7 @@ fn fits_at(s: State, z: Lengths, next: u64, room: usize, top: u32) -> bool
     requires { room ≤ 4096 }
     ensures { result ≡ fits_at s z next room top }
 {
-    if !same_lengths(s.lengths, z) {
+    if s.lengths != z {
         return false;
     }
     if !counts_fit(s, z, room) {
@@ -234,39 +202,46 @@ fn is_split(s: State, distance: f32) -> bool
     morton::should_refine(level, s.bound, distance)
 }
 
-// 7 or 8 where there is no room for a leaf or for eight items, else 0.
-fn full(s: State, split: bool) -> u32
+// Refused where there is no room for a leaf or for eight items.
+fn full(s: State, split: bool) -> Result<(), Refusal>
     requires { (s.nodes ≤ 4096) × (8 * s.leaves ≤ 7 * s.nodes) }
     ensures { result ≡ full_of s split }
 {
     if split {
         if s.lengths.queue < 7 * s.nodes - 8 * s.leaves + 8 {
-            return 8;
+            return Err(Refusal::QueueFull);
         }
-        return 0;
+        return Ok(());
     }
     if s.leaves == s.lengths.leaves {
-        return 7;
+        return Err(Refusal::LeavesFull);
     }
-    0
+    Ok(())
 }
 
-// The number given for no, or 0. Whether the cell is split is found last: after the other tests the compiler knows its level.
-fn refusal_at(s: State, z: Lengths, next: u64, distance: f32, room: usize, top: u32) -> u32
+// Whether the call is refused. Whether the cell is split is found last: after the other tests the compiler knows its level.
+fn refusal_at(
+    s: State,
+    z: Lengths,
+    next: u64,
+    distance: f32,
+    room: usize,
+    top: u32,
+) -> Result<(), Refusal>
     requires { room ≤ 4096 }
     ensures { result ≡ refusal_at s z next (split_of s distance) distance room top }
 {
     if !fits_at(s, z, next, room, top) {
-        return 10;
+        return Err(Refusal::NotFitting);
     }
     if s.asked == 0 {
-        return 9;
+        return Err(Refusal::NothingAsked);
     }
     if !floats::is_finite(distance) {
-        return 16;
+        return Err(Refusal::NotFinite);
     }
     if s.nodes == room {
-        return 6;
+        return Err(Refusal::NodesFull);
     }
     let split = is_split(s, distance);
     full(s, split)
@@ -298,13 +273,13 @@ fn refusal_of(
     firsts: &[u16],
     leaves: &[u64],
     queue: &[u64],
-) -> u32
+) -> Result<(), Refusal>
     ensures { result ≡ refusal_of s (split_of s distance) distance (tables_of keys.now distances.now firsts.now leaves.now queue.now) }
 {
     let z = lengths_of(keys, distances, firsts, leaves, queue);
     let next = item_at(queue, s.nodes);
     let room = node_room(z);
-    let top = finest_level(s.bound);
+    let top = s.bound.max(2);
     refusal_at(s, z, next, distance, room, top)
 }
 
@@ -316,23 +291,23 @@ pub fn start(
     firsts: &[u16],
     leaves: &[u64],
     queue: &[u64],
-) -> Answer
+) -> Result<Answer, Refusal>
     ensures { result ≡ start_of bound (tables_of keys.now distances.now firsts.now leaves.now queue.now) }
 {
     if bound > morton::LIMIT {
-        return Answer::Refused(5);
+        return Err(Refusal::AboveFifteen);
     }
     let lengths = lengths_of(keys, distances, firsts, leaves, queue);
-    Answer::Ask(
+    Ok(Answer::Ask(
         root(),
         State {
-            bound: bound,
+            bound,
             nodes: 0,
             leaves: 0,
             asked: 1,
-            lengths: lengths,
+            lengths,
         },
-    )
+    ))
 }
 
 // The eight children of a cell, as items from `item` on.
@@ -341,11 +316,9 @@ fn put_children(queue: &mut [u64], key: u64, item: usize)
     ensures { queue.new ≡ children_to 8 queue.old key item }
 {
     let mut at = place(item, queue.len());
-    let mut i = 0;
-    while i < 8 {
+    for i in 0..8 {
         queue[at] = 8 * key + i;
         at = after(at, queue.len());
-        i += 1;
     }
 }
 
@@ -364,18 +337,18 @@ fn advance(s: State, leaves: usize, queue: &[u64]) -> Answer
             State {
                 bound: s.bound,
                 nodes: n + 1,
-                leaves: leaves,
+                leaves,
                 asked: key,
-                lengths: lengths,
+                lengths,
             },
         )
     } else {
         Answer::Finished(State {
             bound: s.bound,
             nodes: n + 1,
-            leaves: leaves,
+            leaves,
             asked: 0,
-            lengths: lengths,
+            lengths,
         })
     }
 }
@@ -425,7 +398,7 @@ fn accept(
     split: bool,
 ) -> Answer
     requires { Ready s split (tables_of keys.old distances.old firsts.old leaves.old queue.old) }
-    ensures { outcome result (tables_of keys.new distances.new firsts.new leaves.new queue.new)
+    ensures { outcome (Ok result) (tables_of keys.new distances.new firsts.new leaves.new queue.new)
         ≡ accept_of s split distance (tables_of keys.old distances.old firsts.old leaves.old queue.old) }
 {
     let m = store(s, keys, distances, firsts, leaves, queue, distance, split);
@@ -441,14 +414,11 @@ pub fn distance(
     leaves: &mut [u64],
     queue: &mut [u64],
     distance: f32,
-) -> Answer
+) -> Result<Answer, Refusal>
     ensures { outcome result (tables_of keys.new distances.new firsts.new leaves.new queue.new)
         ≡ distance_of s distance (tables_of keys.old distances.old firsts.old leaves.old queue.old) }
 {
-    let number = refusal_of(s, distance, keys, distances, firsts, leaves, queue);
-    if number != 0 {
-        return Answer::Refused(number);
-    }
+    refusal_of(s, distance, keys, distances, firsts, leaves, queue)?;
     let split = is_split(s, distance);
-    accept(s, keys, distances, firsts, leaves, queue, distance, split)
+    Ok(accept(s, keys, distances, firsts, leaves, queue, distance, split))
 }

@@ -1,12 +1,15 @@
--- `distance` meets its contract: it is refused with the number, or accepted. Assumes nothing.
+-- `distance` meets its contract: it is refused, or accepted. Assumes nothing.
 use Rattle.build.proofs.Laws.{call_ready, call_refused, call_accepted}
+use Rattle.std.proofs.lemmas.Result.{err_from_is_err_and}
 use Rattle.build.proofs.distance.Goals as goal
 
-pub returns-then-number-ne0 : goal.returns-then-number-ne0
-returns-then-number-ne0 c = call_refused _ _ _ _ c.refusal_of-number.ensures c.if-number-ne0.true
+pub returns-in_err-refusal_of : goal.returns-in_err-refusal_of
+returns-in_err-refusal_of c =
+    let p = err_from_is_err_and c.from_residual.result c.from_residual.ensures.1 in
+    rw (p.1, p.2) (call_refused _ _ _ c.refusal_of.ensures _ c.in_err-refusal_of.was)
 
 pub accept-requires : goal.accept-requires
-accept-requires c = call_ready _ _ _ _ c.refusal_of-number.ensures _ c.is_split-split.ensures c.if-number-ne0.false
+accept-requires c = call_ready _ _ _ c.refusal_of.ensures _ c.is_split-split.ensures c.in_ok-refusal_of.was
 
 pub returns : goal.returns
-returns c = call_accepted _ _ _ _ c.refusal_of-number.ensures _ c.is_split-split.ensures c.if-number-ne0.false _ c.accept.ensures
+returns c = call_accepted _ _ _ c.refusal_of.ensures _ c.is_split-split.ensures c.in_ok-refusal_of.was _ c.accept.ensures

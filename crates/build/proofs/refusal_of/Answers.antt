@@ -1,6 +1,6 @@
 -- `refusal_of` meets its contract: what the calls gave is what the definition says. Assumes nothing.
 use native.Mathlib.Omega.{arith}
-use Rattle.build.specs.Build.{node_room, refusal_of}
+use Rattle.build.specs.Build.{node_room, finest, refusal_of}
 use Rattle.build.proofs.refusal_of.Goals as goal
 
 pub refusal_at-requires : goal.refusal_at-requires
@@ -8,5 +8,5 @@ unfolding node_room
 refusal_at-requires c = omega arith
 
 pub returns : goal.returns
-unfolding refusal_of
-returns c = cc
+unfolding refusal_of finest
+returns c = rw (c.node_room-room.ensures, c.lengths_of-z.ensures, c.item_at-next.ensures, c.max-top.ensures) at c.refusal_at.ensures
