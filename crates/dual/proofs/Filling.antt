@@ -17,7 +17,6 @@ use Rattle.morton.specs.Vertex.{is_inner, side_of}
 use Rattle.morton.proofs.Levels.{is_cell_lem, cell_level, cell_is}
 use Rattle.morton.proofs.Vertices.{inner_level, up_pow}
 use Rattle.tree.specs.declared.Lookup.{Lookup}
-use Rattle.tree.specs.declared.Lookup.TheVariants as lookup
 use Rattle.tree.specs.declared.Lookup.TheVariants.{Found, Nothing}
 use Rattle.tree.specs.Tree.{Tree, Sound}
 use Rattle.tree.specs.Down.{Nodes, over, place_over}
@@ -27,8 +26,9 @@ use Rattle.tree.proofs.Finding.{nodes, trusting_lookup, always_found}
 use Rattle.tree.proofs.Lists.{order, decided}
 use Rattle.geometry.proofs.Place.{side_cell, side_on_grid}
 use Rattle.geometry.proofs.Vertex.{inner_strict, inner_grid}
-use Rattle.dual.specs.declared.Tried.{Tried}
-use Rattle.dual.specs.declared.Tried.TheVariants.{Keys, Refused}
+use Rattle.std.specs.Prelude.{Result, Ok, Err}
+use Rattle.refusals.specs.declared.Refusal.{Refusal}
+use Rattle.refusals.specs.declared.Refusal.TheVariants.{NotAVertex, NotSound}
 use Rattle.geometry.specs.Grid.{sum}
 use Rattle.dual.specs.Dual.{tried_to, no_keys, no_distances, no_places, DualCell, DualSays, NoCell, AroundSays, RefusedSays, TrustingSays, key_in, distance_in, place_in, lookup_at, Around, EntrySays}
 
@@ -153,11 +153,11 @@ look_up_inside ns ds k =
     (order (over ns (level k) k) 8))
     (λ c. inl (rw c (refl, refl)))
 
-pub dual_inside : (ns : Nodes) (ds : List Float) (L v : ℕ) (keys : List ℕ) (distances : List Float) (places : List ℕ) (tried : Tried)
+pub dual_inside : (ns : Nodes) (ds : List Float) (L v : ℕ) (keys : List ℕ) (distances : List Float) (places : List ℕ) (tried : Result ℕ Refusal)
     → TrustingSays ns ds L v keys distances places tried → (i : ℕ) → i < 8 → Inside ns (get_or keys i 0) (get_or places i 0)
-dual_inside ns ds L v keys distances places (Keys n) (_, _, a) i h =
+dual_inside ns ds L v keys distances places (Ok n) (_, _, a) i h =
     subst₂ (Inside ns) (sym (a.key i h)) (sym (a.place i h)) (look_up_inside ns ds (sub (v / 8 ^ (deepest - L)) i))
-dual_inside ns ds L v keys distances places (Refused k) (keys_cleared, _, places_cleared, _, _) i h =
+dual_inside ns ds L v keys distances places (Err k) (keys_cleared, _, places_cleared, _, _) i h =
     inl (ap (λ (xs : List ℕ). get_or xs i 0) keys_cleared ∙ get_or-replicate 8 i 0 0 h, ap (λ (xs : List ℕ). get_or xs i 0) places_cleared ∙ get_or-replicate 8 i 0 0 h)
 
 -- ---- the dual cell
@@ -179,7 +179,7 @@ module _ (L v : ℕ) (word : v < 2 ^ 64) (inner : is_inner L v ≡ true) where
   -- so the places of the nodes over the eight sides are those of an answer, on any tables
   pub answer_at : (ns : Nodes) (ds : List Float) (places : List ℕ) → (length ns.keys ≡ 1 → ⊥) → length places ≡ 8
       → ((i : ℕ) → i < 8 → get_or places i 0 ≡ place_over ns L (side_of L v i))
-      → (keys : List ℕ) × (distances : List Float) × (tried : ℕ) × TrustingSays ns ds L v keys distances places (Keys tried)
+      → (keys : List ℕ) × (distances : List Float) × (tried : ℕ) × TrustingSays ns ds L v keys distances places (Ok tried)
   answer_at ns ds places alone eight at = go (any_around ns ds (v / 8 ^ (deepest - L)))
     where
       same : (i : ℕ) → i < 8 → place_in (lookup_at ns ds (v / 8 ^ (deepest - L)) i) ≡ get_or places i 0
@@ -188,7 +188,7 @@ module _ (L v : ℕ) (word : v < 2 ^ 64) (inner : is_inner L v ≡ true) where
           place_is ns ds (side_of L v i) (cell_is L (side_of L v i) (omega arith) (side_at i h)) ∙ ap (λ (m : ℕ). place_over ns m (side_of L v i)) (level_side i h) ∙ sym (at i h)
 
       go : AnyAround ns ds (v / 8 ^ (deepest - L))
-          → (keys : List ℕ) × (distances : List Float) × (tried : ℕ) × TrustingSays ns ds L v keys distances places (Keys tried)
+          → (keys : List ℕ) × (distances : List Float) × (tried : ℕ) × TrustingSays ns ds L v keys distances places (Ok tried)
       go (keys, distances, those, tried, a) =
           let e : those ≡ places =
           ext_get_or 0 those places (a.eight_places ∙ sym eight) (λ i h. let l : i < 8 = omega (arith, a.eight_places) in a.place i l ∙ same i l) in
@@ -196,19 +196,19 @@ module _ (L v : ℕ) (word : v < 2 ^ 64) (inner : is_inner L v ≡ true) where
 
 module _ (t : Tree) (S : Sound t) (L v : ℕ) (word : v < 2 ^ 64) (inner : is_inner L v ≡ true) (more : 1 < length t.keys) where
   -- what is found on side i
-  pub record FoundAt (i : ℕ) (answer : Lookup) : Type 0 where
+  pub record FoundAt (i : ℕ) (answer : Result Lookup Refusal) : Type 0 where
     pub deepest_is : Deepest t (side_of L v i) (key_in answer) (distance_in answer) (place_in answer) (tried_in answer)
     pub tried_is : tried_in answer ≡ tried_to L (key_in answer)
 
   found_at : (i : ℕ) → i < 8 → FoundAt i (lookup_at (nodes t) t.distances (v / 8 ^ (deepest - L)) i)
   found_at i h = go (lookup_at (nodes t) t.distances (v / 8 ^ (deepest - L)) i) (trusting_lookup t S (side_of L v i))
     where
-      go : (r : Lookup) → LookupSays t (side_of L v i) r → FoundAt i r
-      go (Found k d p n) (_, _, D) = record { deepest_is = D; tried_is = omega (arith, D.count, level_side L v word inner i h) }
-      go (Nothing n) (_, _, none, _) =
+      go : (r : Result Lookup Refusal) → LookupSays t (side_of L v i) r → FoundAt i r
+      go (Ok (Found k d p n)) (_, _, D) = record { deepest_is = D; tried_is = omega (arith, D.count, level_side L v word inner i h) }
+      go (Ok (Nothing n)) (_, _, none, _) =
           let l = inner_level L v inner in
           absurd (always_found t S more (side_of L v i) (subst (λ (x : ℕ). Cell x (side_of L v i)) (sym (level_side L v word inner i h)) (side_at L v word inner i h)) (omega (arith, level_side L v word inner i h)) none)
-      go (lookup.Refused n) r =
+      go (Err n) r =
           let l = inner_level L v inner in
           absurd (⊎_elim (λ z. z.0 S) (λ z. true≢false (sym (cell_is L (side_of L v i) (omega arith) (side_at L v word inner i h)) ∙ z.1)) r)
 
@@ -227,25 +227,25 @@ module _ (t : Tree) (S : Sound t) (L v : ℕ) (word : v < 2 ^ 64) (inner : is_in
 
 -- ---- what the calls answer
 
-pub dual_unsound : (t : Tree) (L v : ℕ) (keys : List ℕ) (distances : List Float) (places : List ℕ) (tried : Tried) → RefusedSays 11 keys distances places tried
+pub dual_unsound : (t : Tree) (L v : ℕ) (keys : List ℕ) (distances : List Float) (places : List ℕ) (tried : Result ℕ Refusal) → RefusedSays NotSound keys distances places tried
     → (Sound t → ⊥) → DualSays t L v keys distances places tried
 dual_unsound t L v keys distances places tried r not = rw r.is (r.keys_cleared, r.distances_cleared, r.places_cleared, inl (not, refl))
 
 module _ (ns : Nodes) (ds : List Float) (L v : ℕ) (keys : List ℕ) (distances : List Float) (places : List ℕ) where
-  pub trusting_refused : (tried : Tried) → RefusedSays 4 keys distances places tried → NoCell ns.keys L v → TrustingSays ns ds L v keys distances places tried
+  pub trusting_refused : (tried : Result ℕ Refusal) → RefusedSays NotAVertex keys distances places tried → NoCell ns.keys L v → TrustingSays ns ds L v keys distances places tried
   trusting_refused tried r why = rw r.is (r.keys_cleared, r.distances_cleared, r.places_cleared, why, refl)
 
-  pub trusting_answers : (q : ℕ) (tried : Tried) → is_inner L v ≡ true → (length ns.keys ≡ 1 → ⊥) → q ≡ v / 2 ^ (63 - L * 3)
+  pub trusting_answers : (q : ℕ) (tried : Result ℕ Refusal) → is_inner L v ≡ true → (length ns.keys ≡ 1 → ⊥) → q ≡ v / 2 ^ (63 - L * 3)
       → AroundSays ns ds q keys distances places tried → TrustingSays ns ds L v keys distances places tried
-  trusting_answers q (Keys n) inner alone e a =
+  trusting_answers q (Ok n) inner alone e a =
       let l = inner_level L v inner in
       (inner, alone, subst (λ (x : ℕ). Around ns ds x keys distances places n) (e ∙ ap (λ (x : ℕ). v / x) (up_pow L (omega arith))) a)
-  trusting_answers q (Refused k) inner alone e a = absurd a
+  trusting_answers q (Err k) inner alone e a = absurd a
 
 -- of a sound tree that is its dual cell, refused or not; a vertex is a number of 64 bits
-pub trusting_dual : (t : Tree) → Sound t → (L v : ℕ) → v < 2 ^ 64 → (keys : List ℕ) (distances : List Float) (places : List ℕ) (tried : Tried)
+pub trusting_dual : (t : Tree) → Sound t → (L v : ℕ) → v < 2 ^ 64 → (keys : List ℕ) (distances : List Float) (places : List ℕ) (tried : Result ℕ Refusal)
     → TrustingSays (nodes t) t.distances L v keys distances places tried → DualSays t L v keys distances places tried
-trusting_dual t S L v word keys distances places (Keys n) (inner, alone, a) =
+trusting_dual t S L v word keys distances places (Ok n) (inner, alone, a) =
     let more : 1 < length t.keys = omega (arith, S.first.inside, lt_of_le-ne S.first.inside (λ (z : 1 ≡ length t.keys). alone (sym z))) in
     (S, inner, more, around_dual t S L v word inner more keys distances places n a)
-trusting_dual t S L v word keys distances places (Refused k) (keys_cleared, distances_cleared, places_cleared, why, four) = (keys_cleared, distances_cleared, places_cleared, inr (S, why, four))
+trusting_dual t S L v word keys distances places (Err k) (keys_cleared, distances_cleared, places_cleared, why, four) = (keys_cleared, distances_cleared, places_cleared, inr (S, why, four))

@@ -20,6 +20,8 @@ use Rattle.morton.proofs.Fields.{bit_le}
 use Rattle.morton.proofs.Levels.{and_true, cell_level, cell_is}
 use Rattle.morton.proofs.Sides.{sub_key}
 use Rattle.morton.proofs.Vertices.{is_inside_lem, inner_level, inner_low, inner_code}
+use Rattle.std.specs.Prelude.{Result}
+use Rattle.refusals.specs.declared.Refusal.{Refusal}
 use Rattle.tree.specs.declared.Lookup.{Lookup}
 use Rattle.tree.specs.Down.{Nodes, NodeOver, NodeSays}
 use Rattle.tree.specs.Climb.{distance_at, trusting_of}
@@ -134,13 +136,13 @@ module _ (ds : List Float) (L x l place : ℕ) (h : L ≤ 20) (c : Cell L x) whe
 
   pub entry_nothing : 1 ≤ L → l ≡ 0 → EntryFor ds L x l place 0 (of_bits binary32 0) 0 L
   entry_nothing h1 z ns v =
-      subst (λ (r : Lookup). EntrySays r 0 (of_bits binary32 0) 0 L) (nothing_at ns ds x L l place cell own (says ns place (one ns x l place L (omega arith) v)) z)
+      subst (λ (r : Result Lookup Refusal). EntrySays r 0 (of_bits binary32 0) 0 L) (nothing_at ns ds x L l place cell own (says ns place (one ns x l place L (omega arith) v)) z)
       (record { its_key = refl; its_distance = refl; its_place = refl; its_tried = refl })
 
   found : (ns : Nodes) (p k : ℕ) (d : Float) (m : ℕ) → 0 < l → NodeOver ns L x l p → k ≡ x / 8 ^ (L - l) → d ≡ distance_at ds p → m ≡ L - l + 1
       → EntrySays (trusting_of ns ds x) k d p m
   found ns p k d m pos v e f g =
-      subst (λ (r : Lookup). EntrySays r k d p m) (found_at ns ds x L l p cell own (says ns p v) pos k d e f)
+      subst (λ (r : Result Lookup Refusal). EntrySays r k d p m) (found_at ns ds x L l p cell own (says ns p v) pos k d e f)
       (record { its_key = refl; its_distance = refl; its_place = refl; its_tried = g })
 
   pub entry_row : 0 < l → l ≡ L → (d : Float) → d ≡ distance_at ds (place + x % 8) → EntryFor ds L x l place x d (place + x % 8) 1

@@ -5,23 +5,19 @@ ghost use Rattle.std.specs.Prelude.{◌≡◌, true, ◌^◌, ◌≤◌};
 ghost use Rattle.morton.specs.Field.{sub};
 ghost use Rattle.morton.specs.Level.{deepest, Cell};
 ghost use Rattle.morton.specs.Vertex.{is_inside};
-ghost use Rattle.tree.specs.Tree.{tree_of};
-ghost use Rattle.tree.specs.Down.{nodes_of};
+ghost use Rattle.tree.specs.Tree.{the_tree};
+ghost use Rattle.tree.specs.Down.{the_nodes};
 ghost use Rattle.dual.specs.Dual.{DualSays, EntryFor, RefusedSays, AroundSays, TrustingSays};
 
 use morton::Key;
+use refusals::Refusal;
+use tree::{Nodes, Tree};
 
-// How many keys were tried, or the number of the refusal.
-#[derive(Clone, Copy)]
-pub enum Tried {
-    Keys(u32),
-    Refused(u32),
-}
-
-// A dual cell in corner order: entry w is the cell that has the vertex at its corner w.
+// A dual cell in corner order: entry w is the cell that has the vertex at its corner w; and how many keys were tried for it.
+// Kept: the arrays stand beside the refusal and not in the `Ok`, since the clause of a refused call says of each that it is empty.
 #[derive(Clone, Copy)]
 pub struct Dual {
-    pub tried: Tried,
+    pub tried: Result<u32, Refusal>,
     pub keys: [u64; 8],
     pub distances: [f32; 8],
     pub places: [usize; 8],
@@ -78,9 +74,9 @@ fn entry_for(distances: &[f32], side: u64, level: u32, at: u32, first: usize) ->
 // The entries on the eight sides of a vertex that is `middle` at its level, each written anew. Sides that are children of one parent share a way down: it leads
 // to the node over the parent's first child, and is kept at the one side of them that is lower on no axis on which the vertex is odd. The first loop goes from
 // one such side to the next below. Both loops stand here, since an array that is handed on is copied.
-fn around(keys: &[u64], distances: &[f32], firsts: &[u16], middle: u64, level: u32) -> Dual
+fn around(nodes: &Nodes, distances: &[f32], middle: u64, level: u32) -> Dual
     requires { (1 ≤ level) × (level ≤ 20) × (is_inside level middle ≡ true) }
-    ensures { AroundSays (nodes_of keys.now firsts.now) distances.now middle result.keys result.distances result.places result.tried }
+    ensures { AroundSays (the_nodes nodes.now) distances.now middle result.keys result.distances result.places result.tried }
 {
     let odd = (middle % 8) as usize;
     let even = 7 - odd;
@@ -89,7 +85,7 @@ fn around(keys: &[u64], distances: &[f32], firsts: &[u16], middle: u64, level: u
     let mut above: usize = 8;
     while above > 0 {
         let j = (above - 1) & even;
-        let node = tree::go_down(keys, firsts, level, 8 * (side(middle, j) / 8));
+        let node = nodes.go_down(level, 8 * (side(middle, j) / 8));
         levels[j] = node.level;
         ends[j] = node.place;
         above = j;
@@ -98,18 +94,16 @@ fn around(keys: &[u64], distances: &[f32], firsts: &[u16], middle: u64, level: u
     let mut theirs = [0.0f32; 8];
     let mut places = [0usize; 8];
     let mut tried: u32 = 0;
-    let mut i: usize = 0;
-    while i < 8 {
+    for i in 0..8 {
         let kept = i & even;
         let e = entry_for(distances, side(middle, i), level, levels[kept], ends[kept]);
         found[i] = e.key;
         theirs[i] = e.distance;
         places[i] = e.place;
         tried += e.tried;
-        i += 1;
     }
     Dual {
-        tried: Tried::Keys(tried),
+        tried: Ok(tried),
         keys: found,
         distances: theirs,
         places: places,
@@ -117,11 +111,11 @@ fn around(keys: &[u64], distances: &[f32], firsts: &[u16], middle: u64, level: u
 }
 
 // A refusal hands back empty arrays.
-fn refused(number: u32) -> Dual
-    ensures { RefusedSays number result.keys result.distances result.places result.tried }
+fn refused(refusal: Refusal) -> Dual
+    ensures { RefusedSays refusal result.keys result.distances result.places result.tried }
 {
     Dual {
-        tried: Tried::Refused(number),
+        tried: Err(refusal),
         keys: [0u64; 8],
         distances: [0.0f32; 8],
         places: [0usize; 8],
@@ -130,38 +124,25 @@ fn refused(number: u32) -> Dual
 
 // The dual cell, for one who knows that the tree is sound: who reads much checks it once. Of other tables, what the same lookups come to. A
 // table of one key is the root alone, which has none.
-pub fn dual_cell_trusting(
-    keys: &[u64],
-    distances: &[f32],
-    firsts: &[u16],
-    vertex: u64,
-    level: u32,
-) -> Dual
-    ensures { TrustingSays (nodes_of keys.now firsts.now) distances.now level vertex result.keys result.distances result.places result.tried }
+pub fn dual_cell_trusting(nodes: &Nodes, distances: &[f32], vertex: u64, level: u32) -> Dual
+    ensures { TrustingSays (the_nodes nodes.now) distances.now level vertex result.keys result.distances result.places result.tried }
 {
     let v = Key { code: vertex };
     if !v.is_inner(level) {
-        return refused(4);
+        return refused(Refusal::NotAVertex);
     }
-    if keys.len() == 1 {
-        return refused(4);
+    if nodes.keys.len() == 1 {
+        return refused(Refusal::NotAVertex);
     }
-    around(keys, distances, firsts, vertex >> (63 - level * 3), level)
+    around(nodes, distances, vertex >> (63 - level * 3), level)
 }
 
 // The dual cell of an inner vertex at a level: entry i is the deepest ancestor of side i.
-pub fn dual_cell(
-    keys: &[u64],
-    distances: &[f32],
-    firsts: &[u16],
-    leaves: &[u64],
-    vertex: u64,
-    level: u32,
-) -> Dual
-    ensures { DualSays (tree_of keys.now distances.now firsts.now leaves.now) level vertex result.keys result.distances result.places result.tried }
+pub fn dual_cell(tree: &Tree, vertex: u64, level: u32) -> Dual
+    ensures { DualSays (the_tree tree.now) level vertex result.keys result.distances result.places result.tried }
 {
-    if !tree::sound(keys, distances, firsts, leaves) {
-        return refused(11);
+    if !tree.sound() {
+        return refused(Refusal::NotSound);
     }
-    dual_cell_trusting(keys, distances, firsts, vertex, level)
+    dual_cell_trusting(&tree.nodes, tree.distances, vertex, level)
 }

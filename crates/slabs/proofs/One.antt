@@ -1,6 +1,6 @@
 -- One answer only: of each public call, two answers that meet its promise are the same. Assumes nothing.
 use Prim.Native.Nat.{ℕ, ◌^◌, ◌<◌, min, max}
-use mathlib.Core.Path.{◌≡◌, sym, ap, ap₂, ◌∙◌}
+use mathlib.Core.Path.{◌≡◌, sym, ap, ◌∙◌}
 use mathlib.Core.List.{List, []}
 use native.Mathlib.Omega.{arith}
 use Rattle.morton.proofs.One.{OnlyOne, equal, handed_on}
@@ -8,12 +8,11 @@ use Rattle.tree.specs.Tree.{Tree, Sound}
 use Rattle.tree.specs.Down.{Nodes}
 use Rattle.tree.proofs.Finding.{nodes}
 use Rattle.dual.specs.declared.Dual.{Dual}
-use Rattle.dual.specs.declared.Tried.{Tried}
-use Rattle.dual.specs.declared.Tried.TheVariants as tried
+use Rattle.std.specs.Prelude.{Result, Ok, Err}
+use Rattle.refusals.specs.declared.Refusal.{Refusal}
 use Rattle.dual.specs.Dual.{DualSays, TrustingSays as CellTrustingSays}
 use Rattle.dual.proofs.One.{dual_cell_one, dual_cell_trusting_one}
-use Rattle.slabs.specs.declared.SlabsAnswer.{SlabsAnswer}
-use Rattle.slabs.specs.declared.SlabsAnswer.TheVariants.{Reach, Refused}
+use Rattle.slabs.specs.declared.Reach.{Reach}
 use Rattle.slabs.specs.Heights.{slab_at, Reaches, OfCell, SlabsSays, TrustingSays}
 use Rattle.slabs.proofs.Order.{slab_order}
 use Rattle.slabs.proofs.Answering.{trusting_slabs}
@@ -37,12 +36,15 @@ module _ {keys : List ℕ} {s f₁ f₂ l₁ l₂ : ℕ} (a : Reaches keys s f�
   last_one =
       omega (arith, a.last_is, b.last_is, slab_order s b.high a.high (a.highest.against b.high b.highest.one_of), slab_order s a.high b.high (b.highest.against a.high a.highest.one_of))
 
-of_cell_one : (a : Tried) (keys : List ℕ) (s : ℕ) → OnlyOne (OfCell a keys s)
-of_cell_one (tried.Refused k) keys s q r p h = p ∙ sym h
-of_cell_one (tried.Keys n) keys s (Reach f₁ l₁) (Reach f₂ l₂) (_, p) (_, q) = ap₂ Reach (first_one p q) (last_one p q)
-of_cell_one (tried.Keys n) keys s (Reach f l) (Refused k) (h, _) (g, _) = absurd (omega arith)
-of_cell_one (tried.Keys n) keys s (Refused k) (Reach f l) (h, _) (g, _) = absurd (omega arith)
-of_cell_one (tried.Keys n) keys s (Refused j) (Refused k) (_, p) (_, q) = ap Refused (p ∙ sym q)
+reach_is : {x y : Reach} → x.first ≡ y.first → x.last ≡ y.last → x ≡ y
+reach_is f l = λ i. record { first = f i; last = l i }
+
+of_cell_one : (a : Result ℕ Refusal) (keys : List ℕ) (s : ℕ) → OnlyOne (OfCell a keys s)
+of_cell_one (Err k) keys s q r p h = p ∙ sym h
+of_cell_one (Ok n) keys s (Ok x) (Ok y) (_, p) (_, q) = ap Ok (reach_is (first_one p q) (last_one p q))
+of_cell_one (Ok n) keys s (Ok x) (Err k) (h, _) (g, _) = absurd (omega arith)
+of_cell_one (Ok n) keys s (Err k) (Ok x) (h, _) (g, _) = absurd (omega arith)
+of_cell_one (Ok n) keys s (Err j) (Err k) (_, p) (_, q) = ap Err (p ∙ sym q)
 
 pub slabs_one : (t : Tree) (L v s : ℕ) → OnlyOne (SlabsSays t L v s)
 slabs_one t L v s =
@@ -55,5 +57,5 @@ slabs_trusting_one ns L v s =
     (dual_cell_trusting_one ns [] L v) (λ c. of_cell_one c.tried c.keys s)
 
 -- of a sound tree, what the call may answer is what the trusting one answers
-pub trusting_is_slabs : (t : Tree) → Sound t → (L v s : ℕ) → v < 2 ^ 64 → (q r : SlabsAnswer) → SlabsSays t L v s q → TrustingSays (nodes t) L v s r → q ≡ r
+pub trusting_is_slabs : (t : Tree) → Sound t → (L v s : ℕ) → v < 2 ^ 64 → (q r : Result Reach Refusal) → SlabsSays t L v s q → TrustingSays (nodes t) L v s r → q ≡ r
 trusting_is_slabs t S L v s word q r p h = slabs_one t L v s q r p (trusting_slabs t S L v s word r h)

@@ -1,15 +1,14 @@
 -- How high the nodes of a dual cell lie, and which slabs it reaches. Assumes nothing.
-use Rattle.std.specs.Prelude.{ℕ, ◌+◌, ◌*◌, ◌/◌, ◌^◌, ◌≤◌, ◌<◌, ◌≡◌, List, [], leb}
+use Rattle.std.specs.Prelude.{ℕ, ◌+◌, ◌*◌, ◌/◌, ◌^◌, ◌≤◌, ◌<◌, ◌≡◌, List, [], leb, Result, Ok, Err}
 use Rattle.morton.specs.Field.{coord}
 use Rattle.morton.specs.Level.{limit, level, if₀}
 use Rattle.tree.specs.Tree.{Tree, In}
 use Rattle.tree.specs.Down.{Nodes}
 use Rattle.dual.specs.declared.Dual.{Dual}
-use Rattle.dual.specs.declared.Tried.{Tried}
-use Rattle.dual.specs.declared.Tried.TheVariants as tried
+use Rattle.refusals.specs.declared.Refusal.{Refusal}
+use Rattle.refusals.specs.declared.Refusal.TheVariants.{AboveFifteen}
 use Rattle.dual.specs.Dual.{DualSays, TrustingSays as CellTrustingSays}
-use Rattle.slabs.specs.declared.SlabsAnswer.{SlabsAnswer}
-use Rattle.slabs.specs.declared.SlabsAnswer.TheVariants.{Reach, Refused}
+use Rattle.slabs.specs.declared.Reach.{Reach}
 
 -- Centre height of a node: (2c + 1) / 2^(l+1), c being its coordinate on z and l its level; what stands over the stroke, and under it.
 abbrev pub height_over : ℕ → ℕ
@@ -54,23 +53,21 @@ pub record Reaches (keys : List ℕ) (s first last : ℕ) : Type 0 where
   pub first_is : first ≡ slab_of s low
   pub last_is : last ≡ slab_of s high
 
+-- An answer from one slab to another.
+abbrev pub reach : ℕ → ℕ → Result Reach Refusal
+reach first last = Ok (record { first = first; last = last })
+
 -- What is answered of a dual cell, by how many keys it says were tried and by its keys: its own refusal, 5 where the exponent is above 15, else its slabs.
-abbrev pub OfCell : Tried → List ℕ → ℕ → SlabsAnswer → Type 0
-OfCell (tried.Refused k) keys s r = r ≡ Refused k
-OfCell (tried.Keys n) keys s (Refused k) = (limit < s) × (k ≡ 5)
-OfCell (tried.Keys n) keys s (Reach first last) = (s ≤ limit) × Reaches keys s first last
+abbrev pub OfCell : Result ℕ Refusal → List ℕ → ℕ → Result Reach Refusal → Type 0
+OfCell (Err e) keys s r = r ≡ Err e
+OfCell (Ok n) keys s (Err e) = (limit < s) × (e ≡ AboveFifteen)
+OfCell (Ok n) keys s (Ok x) = (s ≤ limit) × Reaches keys s x.first x.last
 
 -- Refusals 11, 4, 5: the cell is the one that `dual_cell` answers.
-abbrev pub SlabsSays : Tree → ℕ → ℕ → ℕ → SlabsAnswer → Type 0
+abbrev pub SlabsSays : Tree → ℕ → ℕ → ℕ → Result Reach Refusal → Type 0
 SlabsSays t L v s r = (c : Dual) × DualSays t L v c.keys c.distances c.places c.tried × OfCell c.tried c.keys s r
 
 -- Of a tree that is trusted to be sound, refusals 4, 5: the cell is the one that `dual_cell_trusting` answers of the same nodes with no distances, on which its
 -- keys don't depend.
-abbrev pub TrustingSays : Nodes → ℕ → ℕ → ℕ → SlabsAnswer → Type 0
+abbrev pub TrustingSays : Nodes → ℕ → ℕ → ℕ → Result Reach Refusal → Type 0
 TrustingSays ns L v s r = (c : Dual) × CellTrustingSays ns [] L v c.keys c.distances c.places c.tried × OfCell c.tried c.keys s r
-
--- ---- what the steps of the call promise
-
-abbrev pub ReachSays : List ℕ → ℕ → SlabsAnswer → Type 0
-ReachSays keys s (Reach first last) = Reaches keys s first last
-ReachSays keys s (Refused k) = ⊥

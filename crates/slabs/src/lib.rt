@@ -1,19 +1,20 @@
 #![tactic(auto)]
 // The slabs that a dual cell reaches, from the lowest to the highest of its eight node centres. Ours: the Rust cuts no slabs.
-ghost use Rattle.std.specs.Prelude.{◌≡◌, ◌≤◌, min, max};
+ghost use Rattle.std.specs.Prelude.{◌≡◌, ◌≤◌};
 ghost use Rattle.morton.specs.Level.{limit};
-ghost use Rattle.tree.specs.Tree.{tree_of};
-ghost use Rattle.tree.specs.Down.{nodes_of};
-ghost use Rattle.slabs.specs.Heights.{slab_of, slab_at, ReachSays, SlabsSays, TrustingSays};
+ghost use Rattle.tree.specs.Tree.{the_tree};
+ghost use Rattle.tree.specs.Down.{the_nodes};
+ghost use Rattle.slabs.specs.Heights.{slab_of, slab_at, Reaches, SlabsSays, TrustingSays};
 
-use dual::Tried;
 use morton::Key;
+use refusals::Refusal;
+use tree::{Nodes, Tree};
 
-// The first and the last slab that a cell reaches, from 0 on, or the number of the refusal.
-#[derive(Clone, Copy)]
-pub enum SlabsAnswer {
-    Reach { first: u32, last: u32 },
-    Refused(u32),
+// The first and the last slab that a cell reaches, from 0 on.
+#[derive(Clone, Copy, Debug, PartialEq, Eq, Hash)]
+pub struct Reach {
+    pub first: u32,
+    pub last: u32,
 }
 
 // The slab in which a node's centre lies, (2c + 1) / 2^(l+1) high in the cube. With 2^s slabs that is a shift by l + 1 - s, either way.
@@ -40,81 +41,45 @@ pub fn slab_at(key: u64, exponent: u32) -> u32
     slab_of(key, exponent)
 }
 
-pub fn lesser(a: u32, b: u32) -> u32
-    ensures { result ≡ min a b }
-{
-    if b < a {
-        return b;
-    }
-    a
-}
-
-pub fn greater(a: u32, b: u32) -> u32
-    ensures { result ≡ max a b }
-{
-    if a < b {
-        return b;
-    }
-    a
-}
-
 // From the least to the greatest slab of eight nodes, since rounding down keeps the order of their centres.
-fn reach(nodes: [u64; 8], exponent: u32) -> SlabsAnswer
+fn reach_of(nodes: [u64; 8], exponent: u32) -> Reach
     requires { exponent ≤ limit }
-    ensures { ReachSays nodes exponent result }
+    ensures { Reaches nodes exponent result.first result.last }
 {
     let mut first = slab_of(nodes[0], exponent);
     let mut last = first;
-    let mut i: usize = 1;
-    while i < 8 {
+    for i in 1..8 {
         let slab = slab_of(nodes[i], exponent);
-        first = lesser(first, slab);
-        last = greater(last, slab);
-        i += 1;
+        first = first.min(slab);
+        last = last.max(slab);
     }
-    SlabsAnswer::Reach { first, last }
+    Reach { first, last }
 }
 
 // The slabs, for one who knows that the tree is sound: who reads much checks it once. Of other tables, those of the eight keys that
 // `dual_cell_trusting` answers. No distance matters, so none is lent.
 pub fn slabs_trusting(
-    keys: &[u64],
-    firsts: &[u16],
+    nodes: &Nodes,
     vertex: u64,
     level: u32,
     exponent: u32,
-) -> SlabsAnswer
-    ensures { TrustingSays (nodes_of keys.now firsts.now) level vertex exponent result }
+) -> Result<Reach, Refusal>
+    ensures { TrustingSays (the_nodes nodes.now) level vertex exponent result }
 {
-    let none = [0.0f32; 0];
-    let cell = dual::dual_cell_trusting(keys, &none, firsts, vertex, level);
-    let nodes = cell.keys;
-    let answer = cell.tried;
-    match answer {
-        Tried::Refused(number) => SlabsAnswer::Refused(number),
-        Tried::Keys(_) => {
-            if exponent > morton::LIMIT {
-                return SlabsAnswer::Refused(5);
-            }
-            reach(nodes, exponent)
-        }
+    let cell = dual::dual_cell_trusting(nodes, &[], vertex, level);
+    cell.tried?;
+    if exponent > morton::LIMIT {
+        return Err(Refusal::AboveFifteen);
     }
+    Ok(reach_of(cell.keys, exponent))
 }
 
 // The first and the last slab that the dual cell of an inner vertex at a level reaches: with exponent s the cube has 2^s slabs along z.
-pub fn slabs(
-    keys: &[u64],
-    distances: &[f32],
-    firsts: &[u16],
-    leaves: &[u64],
-    vertex: u64,
-    level: u32,
-    exponent: u32,
-) -> SlabsAnswer
-    ensures { SlabsSays (tree_of keys.now distances.now firsts.now leaves.now) level vertex exponent result }
+pub fn slabs(tree: &Tree, vertex: u64, level: u32, exponent: u32) -> Result<Reach, Refusal>
+    ensures { SlabsSays (the_tree tree.now) level vertex exponent result }
 {
-    if !tree::sound(keys, distances, firsts, leaves) {
-        return SlabsAnswer::Refused(11);
+    if !tree.sound() {
+        return Err(Refusal::NotSound);
     }
-    slabs_trusting(keys, firsts, vertex, level, exponent)
+    slabs_trusting(&tree.nodes, vertex, level, exponent)
 }

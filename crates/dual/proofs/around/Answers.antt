@@ -30,19 +30,19 @@ pub loop-above-preserved : goal.loop-above-preserved
 loop-above-preserved c = told_more _ _ _ _ _ _ c.loop-above.invariant _ _ _ c.side.ensures c.go_down-node.ensures
 
 pub loop-i-init : goal.loop-i-init
-loop-i-init c = (omega arith, omega arith, filled_none _ _ _ _ _ _ refl refl refl)
+loop-i-init c = (omega arith, filled_none _ _ _ _ _ _ refl refl refl)
 
 pub offset_bounds-levels-kept : goal.offset_bounds-levels-kept
-offset_bounds-levels-kept c = scaled_Fits _ 8 _ (among _ _ c.loop-i-test.true) (lit< tt)
+offset_bounds-levels-kept c = scaled_Fits _ 8 _ (among _ _ (omega arith)) (lit< tt)
 
 pub bounds-levels-kept : goal.bounds-levels-kept
-bounds-levels-kept c = among _ _ c.loop-i-test.true
+bounds-levels-kept c = among _ _ (omega arith)
 
 pub offset_bounds-ends-kept : goal.offset_bounds-ends-kept
-offset_bounds-ends-kept c = scaled_Fits _ 8 _ (among _ _ c.loop-i-test.true) (lit< tt)
+offset_bounds-ends-kept c = scaled_Fits _ 8 _ (among _ _ (omega arith)) (lit< tt)
 
 pub bounds-ends-kept : goal.bounds-ends-kept
-bounds-ends-kept c = among _ _ c.loop-i-test.true
+bounds-ends-kept c = among _ _ (omega arith)
 
 pub entry_for-e-requires : goal.entry_for-e-requires
 entry_for-e-requires c = let p = c.requires in way_ready _ _ p.0 p.1 p.2 _ _ _ _ c.loop-above-test.false c.loop-above.invariant c.loop-i.i (omega arith) _ c.side-in-loop-i.ensures (omega arith)
@@ -51,7 +51,7 @@ pub overflow_add-tried : goal.overflow_add-tried
 overflow_add-tried c = record { fits = omega (arith, c.entry_for-e.ensures.1) }
 
 pub loop-i-preserved : goal.loop-i-preserved
-loop-i-preserved c = let p = c.requires in (omega arith, omega (arith, c.entry_for-e.ensures.1), filled_more _ _ _ c.loop-i.i _ _ _ _ _ _ _ _ (omega arith) c.loop-i.invariant.2 (way_entry _ _ p.0 p.1 p.2 _ _ _ _ c.loop-above-test.false c.loop-above.invariant c.loop-i.i (omega arith) _ c.side-in-loop-i.ensures _ _ _ _ _ c.entry_for-e.ensures.0))
+loop-i-preserved c = let p = c.requires in (omega (arith, c.entry_for-e.ensures.1), filled_more _ _ _ c.loop-i.i _ _ _ _ _ _ _ _ (omega arith) c.loop-i.invariant.1 (way_entry _ _ p.0 p.1 p.2 _ _ _ _ c.loop-above-test.false c.loop-above.invariant c.loop-i.i (omega arith) _ c.side-in-loop-i.ensures _ _ _ _ _ c.entry_for-e.ensures.0))
 
 pub returns : goal.returns
-returns c = filled_all _ _ _ c.loop-i.i _ _ _ _ (omega arith) (omega arith) c.loop-i.invariant.2
+returns c = filled_all _ _ _ c.loop-i.i _ _ _ _ (omega arith) (omega arith) c.loop-i.invariant.1

@@ -1,19 +1,16 @@
 -- What the loop of `around` keeps, and how it ends.
-use Prim.Native.Nat.{◌-◌, ◌*◌, ◌≤◌}
+use Prim.Native.Nat.{◌*◌, ◌≤◌}
 use Rattle.morton.specs.Level.{deepest}
-use Rattle.tree.specs.Down.{nodes_of}
+use Rattle.tree.specs.Down.{the_nodes}
 use Rattle.dual.proofs.Sharing.{Told}
 use Rattle.dual.proofs.Filling.{Filled}
 use Rattle.dual.proofs.around.Given as goal
 
 abbrev pub invariant-loop-above : goal.invariant-loop-above
-invariant-loop-above l = Told (nodes_of l.keys l.firsts) l.level l.middle l.above l.levels l.ends
+invariant-loop-above l = Told (the_nodes l.nodes) l.level l.middle l.above l.levels l.ends
 
 abbrev pub decreases-loop-above : goal.decreases-loop-above
 decreases-loop-above l = l.above
 
 abbrev pub invariant-loop-i : goal.invariant-loop-i
-invariant-loop-i l = (l.i ≤ 8) × (l.tried ≤ deepest * l.i) × Filled (nodes_of l.keys l.firsts) l.distances l.middle l.i l.found l.theirs l.places l.tried
-
-abbrev pub decreases-loop-i : goal.decreases-loop-i
-decreases-loop-i l = 8 - l.i
+invariant-loop-i l = (l.tried ≤ deepest * l.i) × Filled (the_nodes l.nodes) l.distances l.middle l.i l.found l.theirs l.places l.tried

@@ -4,9 +4,9 @@ use Rattle.dual.proofs.Filling.{dual_unsound, trusting_dual}
 use Rattle.dual.proofs.dual_cell.Goals as goal
 
 pub returns-then-not-sound : goal.returns-then-not-sound
-returns-then-not-sound c = dual_unsound _ _ _ _ _ _ _ c.refused.ensures (denied c.sound.result _ (c.if-not-sound.true) c.sound.ensures)
+returns-then-not-sound c = dual_unsound _ _ _ _ _ _ _ c.refused.ensures (denied c.sound.result _ c.if-not-sound.true c.sound.ensures)
 
 pub returns : goal.returns
 returns c =
     let r = c.dual_cell_trusting.result in
-    trusting_dual _ (said c.sound.result _ (c.if-not-sound.false) c.sound.ensures) _ _ c.ranges.vertex.fits r.keys r.distances r.places r.tried c.dual_cell_trusting.ensures
+    trusting_dual _ (said c.sound.result _ c.if-not-sound.false c.sound.ensures) _ _ c.ranges.vertex.fits r.keys r.distances r.places r.tried c.dual_cell_trusting.ensures
