@@ -198,7 +198,7 @@ module _ (ks : Nodes) where
       unfolding in_turn
       partly_none at t = stored_none at t
 
-      pub partly_more : (q at n r : ℕ) (t0 t1 t2 : Cells) → SameSize t0 t1 → Partly l c q at n t0 t1 → Grown l c q n r t1 t2 → Partly l c (q + 1) at r t0 t2
+      partly_more : (q at n r : ℕ) (t0 t1 t2 : Cells) → SameSize t0 t1 → Partly l c q at n t0 t1 → Grown l c q n r t1 t2 → Partly l c (q + 1) at r t0 t2
       unfolding in_turn
       partly_more q at n r t0 t1 t2 k a b =
           subst (λ (k : ℕ). Partly l c k at r t0 t2) (sym (add-one q))
@@ -288,8 +288,13 @@ module _ (ks : Nodes) (from room : ℕ) where
   pub grown_on : (l c q n r : ℕ) (t0 t1 : Cells) → Stored ks from room (walked (limit - (l + 1)) ks (l + 1) (8 * c + q)) n r t0 t1 → Grown ks from room l c q n r t0 t1
   grown_on l c q n r t0 t1 a = subst (λ (k : ℕ). Stored ks from room (walked (limit - k) ks k (8 * c + q)) n r t0 t1) (add-one l) a
 
-  pub stored_room : (ss : List Spot) (at r : ℕ) (t0 t1 : Cells) → at ≤ room → Stored ks from room ss at r t0 t1 → r ≤ room
-  stored_room ss at r t0 t1 h a = omega (arith, a.count, wanted_most from (room - at) ss)
+  -- one more child, no further than there is room
+  pub partly_step : (l c q at n r : ℕ) (t0 t1 t2 : Cells) → SameSize t0 t1 → (n ≤ room) × Partly ks from room l c q at n t0 t1
+      → Grown ks from room l c q n r t1 t2 → (r ≤ room) × Partly ks from room l c (q + 1) at r t0 t2
+  partly_step l c q at n r t0 t1 t2 k a b = (
+    omega (arith, a.0, b.count, wanted_most from (room - n) (walked (limit - suc l) ks (suc l) (8 * c + q))),
+    partly_more ks from room l c q at n r t0 t1 t2 k a.1 b,
+  )
 
 -- what is not skipped has room
 pub unskipped : (l c from m room : ℕ) → (Skipped l c from m room → ⊥) → m < room

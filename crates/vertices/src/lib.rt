@@ -1,6 +1,6 @@
 #![tactic(auto)]
 // The vertices of a finished tree. From `compute_primal_vertices` in src/linear_hashed_marching_cubes.rs of isosurface 0.0.4.
-ghost use Rattle.std.specs.Prelude.{◌≡◌, true, false, ◌+◌, ◌-◌, ◌*◌, ◌/◌, ◌^◌, ◌<◌, ◌≤◌, min, length};
+ghost use Rattle.std.specs.Prelude.{◌≡◌, true, false, ◌+◌, ◌-◌, ◌*◌, ◌/◌, ◌^◌, ◌<◌, ◌≤◌, length};
 ghost use Rattle.morton.specs.Level.{limit, Cell};
 ghost use Rattle.morton.specs.Field.{sub};
 ghost use Rattle.tree.specs.Tree.{tree_of, Decides};
@@ -41,10 +41,8 @@ fn childless(firsts: &[u16], place: usize) -> bool
         return false;
     }
     let mut any = 0u16;
-    let mut w: usize = 0;
-    while w < 8 {
-        any = any | firsts[place + w];
-        w += 1;
+    for w in 0..8 {
+        any |= firsts[place + w];
     }
     any == 0
 }
@@ -58,14 +56,10 @@ fn split_children(keys: &[u64], firsts: &[u16], first: usize, node: u64) -> u64
         return 0;
     }
     let mut mask = 0;
-    let mut w: usize = 0;
-    while w < 8 {
+    for w in 0..8 {
         let below = tree::first_at(firsts, first + w);
         if tree::leads(keys, below, 64 * node + 8 * w as u64) {
             mask += 1 << w;
-            w += 1;
-        } else {
-            w += 1;
         }
     }
     mask
@@ -87,13 +81,9 @@ fn split_below(keys: &[u64], firsts: &[u16], cell: u64, at: &[u32], mask: u64) -
     ensures { BelowMarks (nodes_of keys.now firsts.now) cell at.now mask result }
 {
     let mut below = 0;
-    let mut o: usize = 0;
-    while o < 8 {
+    for o in 0..8 {
         if marked(mask, o) {
             below += split_children(keys, firsts, at[o] as usize, lower_cell(cell, o)) << (8 * o);
-            o += 1;
-        } else {
-            o += 1;
         }
     }
     below
@@ -134,13 +124,9 @@ fn lower_mask(below: u64, q: usize) -> u64
         return 0;
     }
     let mut out = 0;
-    let mut o: usize = 0;
-    while o < 8 {
+    for o in 0..8 {
         if marked(below, 8 * (o & (7 - q)) + (q ^ o)) {
             out += 1 << o;
-            o += 1;
-        } else {
-            o += 1;
         }
     }
     out
@@ -229,10 +215,8 @@ fn put_places(places: &mut [usize], n: usize, at: &[u32], mask: u64, q: usize)
     requires near { Near at.now }
     ensures { places.new ≡ sets places.old (8 * n) (eight (lowered_place at.now mask q)) }
 {
-    let mut o: usize = 0;
-    while o < 8 {
+    for o in 0..8 {
         places[8 * n + o] = lower_place(at, mask, q, o) as usize;
-        o += 1;
     }
 }
 
@@ -296,15 +280,12 @@ fn lower_at(firsts: &[u16], at: &[u32], mask: u64, child: u64, q: usize) -> [u32
     ensures { LoweredAt firsts.now at.now mask child q result }
 {
     let mut out = [0u32; 8];
-    let mut o: usize = 0;
-    while o < 8 {
+    for o in 0..8 {
         let place = lower_place(at, mask, q, o);
         if marked(child, o) {
             out[o] = tree::first_at(firsts, place as usize) as u32;
-            o += 1;
         } else {
             out[o] = place;
-            o += 1;
         }
     }
     out
@@ -333,56 +314,38 @@ fn gather(
         (cells_of vertices.old levels.old places.old) (cells_of vertices.new levels.new places.new) }
 {
     let below = split_below(keys, firsts, cell, at, mask);
+    let deeper = level + 1;
     let mut m = n;
-    let mut q: usize = 0;
-    while q < 8 {
+    for q in 0..8 {
         let child = 8 * cell + q as u64;
-        if skipped(level + 1, child, from, m, room) {
-            q += 1;
-        } else {
-            let child_mask = lower_mask(below, q);
-            if child_mask == 0 {
-                if touched(low, mask, q) {
-                    let vertex = low_corner(level + 1, child);
-                    m = take(
-                        level + 1,
-                        vertex,
-                        from,
-                        at,
-                        mask,
-                        q,
-                        vertices,
-                        levels,
-                        places,
-                        m,
-                    );
-                    q += 1;
-                } else {
-                    q += 1;
-                }
-            } else {
-                if level as u32 + 1 < morton::LIMIT {
-                    let lowered = lower_at(firsts, at, mask, child_mask, q);
-                    m = gather(
-                        keys,
-                        firsts,
-                        from,
-                        room,
-                        level + 1,
-                        child,
-                        &lowered,
-                        child_mask,
-                        low & (7 - q),
-                        vertices,
-                        levels,
-                        places,
-                        m,
-                    );
-                    q += 1;
-                } else {
-                    q += 1;
-                }
+        if skipped(deeper, child, from, m, room) {
+            continue;
+        }
+        let child_mask = lower_mask(below, q);
+        if child_mask == 0 {
+            if touched(low, mask, q) {
+                let vertex = low_corner(deeper, child);
+                m = take(
+                    deeper, vertex, from, at, mask, q, vertices, levels, places, m,
+                );
             }
+        } else if u32::from(deeper) < morton::LIMIT {
+            let lowered = lower_at(firsts, at, mask, child_mask, q);
+            m = gather(
+                keys,
+                firsts,
+                from,
+                room,
+                deeper,
+                child,
+                &lowered,
+                child_mask,
+                low & (7 - q),
+                vertices,
+                levels,
+                places,
+                m,
+            );
         }
     }
     m
@@ -428,12 +391,6 @@ fn whole(keys: &[u64], firsts: &[u16], vertices: &mut [u64], levels: &mut [u8]) 
     )
 }
 
-fn shorter(a: usize, b: usize) -> usize
-    ensures { result ≡ min a b }
-{
-    if a <= b { a } else { b }
-}
-
 // No tree of so many keys has more vertices, nor do tables that hold none: each vertex is one of the 19 middles of a split cell, and each split cell
 // has eight keys of its own below the root.
 fn most_vertices(keys: usize) -> usize
@@ -471,7 +428,7 @@ pub fn list_trusting(
 ) -> ListAnswer
     ensures { TrustingSays (nodes_of keys.now firsts.now) start (lists_of vertices.old levels.old) (lists_of vertices.new levels.new) result }
 {
-    let len = shorter(vertices.len(), levels.len());
+    let len = vertices.len().min(levels.len());
     if !list_has_room(keys, firsts, start, len) {
         return ListAnswer::Refused(12);
     }
@@ -510,7 +467,7 @@ pub fn cells_trusting(
     ensures { CellsSays (nodes_of keys.now firsts.now) from (cells_of vertices.old levels.old places.old)
         (cells_of vertices.new levels.new places.new) result }
 {
-    let pairs = shorter(vertices.len(), levels.len());
-    let room = shorter(pairs, places.len() / 8);
+    let pairs = vertices.len().min(levels.len());
+    let room = pairs.min(places.len() / 8);
     from_root(keys, firsts, from, room, vertices, levels, places)
 }

@@ -6,16 +6,10 @@ use Rattle.vertices.proofs.Root.{wrote}
 use Rattle.vertices.proofs.list_trusting.Goals as goal
 
 pub returns-then-not-list_has_room : goal.returns-then-not-list_has_room
-returns-then-not-list_has_room c = (refl, (λ r. denied c.list_has_room.result _ (c.if-not-list_has_room.true) c.list_has_room.ensures (omega (arith, r.vertices, r.levels, c.shorter-len.ensures))), refl)
-
-pub offset_bounds-vertices-start : goal.offset_bounds-vertices-start
-offset_bounds-vertices-start c = record { fits = omega (arith, (said c.list_has_room.result _ (c.if-not-list_has_room.false) c.list_has_room.ensures), c.shorter-len.ensures) }
-
-pub slice_bounds-whole-count : goal.slice_bounds-whole-count
-slice_bounds-whole-count c = omega (arith, (said c.list_has_room.result _ (c.if-not-list_has_room.false) c.list_has_room.ensures), c.shorter-len.ensures)
-
-pub slice_bounds-whole-count-2 : goal.slice_bounds-whole-count-2
-slice_bounds-whole-count-2 c = omega (arith, (said c.list_has_room.result _ (c.if-not-list_has_room.false) c.list_has_room.ensures), c.shorter-len.ensures)
+returns-then-not-list_has_room c =
+    (refl, (λ r. denied c.list_has_room.result _ c.if-not-list_has_room.true c.list_has_room.ensures (omega (arith, r.vertices, r.levels))), refl)
 
 pub returns : goal.returns
-returns c = wrote _ _ _ _ _ _ _ c.whole-n.ensures (record { vertices = omega (arith, (said c.list_has_room.result _ (c.if-not-list_has_room.false) c.list_has_room.ensures), c.shorter-len.ensures); levels = omega (arith, (said c.list_has_room.result _ (c.if-not-list_has_room.false) c.list_has_room.ensures), c.shorter-len.ensures) })
+returns c =
+    let r = said c.list_has_room.result _ c.if-not-list_has_room.false c.list_has_room.ensures in
+    wrote _ _ _ _ _ _ _ c.whole-n.ensures (record { vertices = omega arith; levels = omega arith })

@@ -1,12 +1,9 @@
--- What the loop of `lower_at` keeps, and how it ends.
-use Prim.Native.Nat.{ℕ, ◌-◌, ◌≤◌, ◌<◌}
+-- What the loop of `lower_at` keeps.
+use Prim.Native.Nat.{ℕ, ◌<◌}
 use mathlib.Core.Path.{◌≡◌}
 use lib.ListN.{length, get_or}
 use Rattle.vertices.specs.Block.{lowered_at}
 use Rattle.vertices.proofs.lower_at.Given as goal
 
 abbrev pub invariant-loop-o : goal.invariant-loop-o
-invariant-loop-o l = (l.o ≤ 8) × (length l.out ≡ 8) × ((i : ℕ) → i < l.o → get_or l.out i 0 ≡ lowered_at l.firsts l.at l.mask l.child l.q i)
-
-abbrev pub decreases-loop-o : goal.decreases-loop-o
-decreases-loop-o l = 8 - l.o
+invariant-loop-o l = (length l.out ≡ 8) × ((i : ℕ) → i < l.o → get_or l.out i 0 ≡ lowered_at l.firsts l.at l.mask l.child l.q i)

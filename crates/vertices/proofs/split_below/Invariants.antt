@@ -1,11 +1,7 @@
--- What the loop of `split_below` keeps, and how it ends.
-use Prim.Native.Nat.{◌-◌, ◌≤◌}
+-- What the loop of `split_below` keeps.
 use Rattle.tree.specs.Down.{nodes_of}
 use Rattle.vertices.proofs.Marks.{Stacked}
 use Rattle.vertices.proofs.split_below.Given as goal
 
 abbrev pub invariant-loop-o : goal.invariant-loop-o
-invariant-loop-o l = (l.o ≤ 8) × Stacked (nodes_of l.keys l.firsts) l.cell l.at l.mask l.o l.below
-
-abbrev pub decreases-loop-o : goal.decreases-loop-o
-decreases-loop-o l = 8 - l.o
+invariant-loop-o l = Stacked (nodes_of l.keys l.firsts) l.cell l.at l.mask l.o l.below
