@@ -1,4 +1,5 @@
 -- The walk over a sound tree finds its vertices: so the list of one who trusts is the list. Assumes nothing.
+use Rattle.std.specs.Prelude.{Result, Ok, Err}
 use Prim.Native.Nat.{ℕ, zero, suc, ◌+◌, ◌*◌, ◌-◌, ◌^◌, ◌≤◌, ◌<◌}
 use mathlib.Core.Path.{◌≡◌, sym, ◌∙◌, ap, subst}
 use mathlib.Core.Bool.{true, false, true≢false}
@@ -17,8 +18,7 @@ use Rattle.tree.specs.Down.{Nodes}
 use Rattle.tree.proofs.Finding.{nodes}
 use Rattle.tree.proofs.Pass.{said}
 use Rattle.geometry.specs.Listing.{Listed}
-use Rattle.vertices.specs.declared.ListAnswer.{ListAnswer}
-use Rattle.vertices.specs.declared.ListAnswer.TheVariants as list
+use Rattle.refusals.specs.declared.Refusal.{Refusal}
 use Rattle.vertices.specs.Walk.{split_at, entry, Spot, in_turn, low_corner, divided, meets, ending, spots_of, vertices_of, levels_of}
 use Rattle.vertices.specs.Listing.{Lists, Room, ListSays, TrustingSays}
 use Rattle.vertices.proofs.Blocks.{some_if, some_is, all_if, all_is, walk_ind, ending_by, undivided, vertices_append, levels_append, vertices_length}
@@ -135,8 +135,8 @@ spots_listed t s =
     (spots_walked (nodes t) (record { distances = t.distances; leaves = t.leaves; sound = s }))
 
 -- of a sound tree the list of one who trusts is the list
-pub trusting_list : (t : Tree) → Sound t → (start : ℕ) (was left : Lists) (r : ListAnswer) → TrustingSays (nodes t) start was left r → ListSays t start was left r
-trusting_list t s start was left (list.Count n) a = (
+pub trusting_list : (t : Tree) → Sound t → (start : ℕ) (was left : Lists) (r : Result ℕ Refusal) → TrustingSays (nodes t) start was left r → ListSays t start was left r
+trusting_list t s start was left (Ok n) a = (
   s,
   record {
     vs = vertices_of (spots_of (nodes t));
@@ -148,7 +148,7 @@ trusting_list t s start was left (list.Count n) a = (
     levels_are = ap (λ (x : Lists). x.levels) a.2;
   },
 )
-trusting_list t s start was left (list.Refused k) a = (
+trusting_list t s start was left (Err e) a = (
   a.0,
   inr (
     s,

@@ -1,4 +1,5 @@
 -- The root's block, and the tables of the whole list, on any table of keys. Assumes nothing.
+use Rattle.std.specs.Prelude.{Ok}
 use Prim.Native.Nat.{ℕ, zero, suc, ◌+◌, ◌-◌, ◌^◌, ◌≤◌, ◌<◌}
 use mathlib.Core.Path.{◌≡◌, refl, sym, ◌∙◌, ap, subst}
 use mathlib.Core.Bool.{Bool, true, false}
@@ -13,7 +14,6 @@ use Rattle.morton.specs.Field.{coord, third, weave}
 use Rattle.morton.specs.Level.{limit, if₀}
 use Rattle.morton.proofs.Dilated.{axes}
 use Rattle.tree.specs.Down.{Nodes, first_at, leads, steps, reach, is_split, over, place_over}
-use Rattle.vertices.specs.declared.ListAnswer.TheVariants as list
 use Rattle.tree.proofs.Lists.{unless}
 use Rattle.geometry.specs.Near.{near, in_cube}
 use Rattle.vertices.specs.Walk.{split_at, entry, place_at, Spot, divided, meets, walked, spots_of, vertices_of, levels_of}
@@ -130,7 +130,7 @@ module _ (ks : Nodes) where
   -- written into the parts that begin at the start place
   pub wrote : (start n : ℕ) (v0 l0 pv pl : List ℕ) → Whole ks n (mid_of start (length v0 - start) v0) (mid_of start (length l0 - start) l0) pv pl
       → Room start (length (spots_of ks)) (lists_of v0 l0)
-      → TrustingSays ks start (lists_of v0 l0) (lists_of (put_mid start (length v0 - start) v0 pv) (put_mid start (length l0 - start) l0 pl)) (list.Count n)
+      → TrustingSays ks start (lists_of v0 l0) (lists_of (put_mid start (length v0 - start) v0 pv) (put_mid start (length l0 - start) l0 pl)) (Ok n)
   wrote start n v0 l0 pv pl w r =
       let c : n ≡ length (spots_of ks) = count_is n _ _ pv pl w in
       let hv : start + n ≤ length v0 = omega (arith, r.vertices) in

@@ -1,10 +1,10 @@
 -- What the call that lists the vertices answers and leaves. Assumes nothing.
-use Rattle.std.specs.Prelude.{ℕ, ◌+◌, ◌≤◌, ◌≡◌, ◌⊎◌, List, ◌++◌, length, take, drop}
+use Rattle.std.specs.Prelude.{ℕ, ◌+◌, ◌≤◌, ◌≡◌, ◌⊎◌, List, ◌++◌, length, take, drop, Result, Ok, Err}
+use Rattle.refusals.specs.declared.Refusal.{Refusal}
+use Rattle.refusals.specs.declared.Refusal.TheVariants.{NotSound, ListFull}
 use Rattle.tree.specs.Tree.{Tree, Sound}
 use Rattle.tree.specs.Down.{Nodes}
 use Rattle.geometry.specs.Listing.{Listed}
-use Rattle.vertices.specs.declared.ListAnswer.{ListAnswer}
-use Rattle.vertices.specs.declared.ListAnswer.TheVariants.{Count, Refused}
 use Rattle.vertices.specs.Walk.{spots_of, vertices_of, levels_of}
 
 -- The vertex table and the level table.
@@ -41,17 +41,16 @@ pub record Short (leaves : List ℕ) (start : ℕ) (was : Lists) : Type 0 where
   pub listed : Listed leaves vs ls
   pub no_room : Room start (length vs) was → ⊥
 
--- Refusals 11, 12.
-abbrev pub ListSays : Tree → ℕ → Lists → Lists → ListAnswer → Type 0
-ListSays t start was left (Count n) = Sound t × Wrote t.leaves start n was left
-ListSays t start was left (Refused k) =
-    (left ≡ was) × (((Sound t → ⊥) × (k ≡ 11)) ⊎ (Sound t × Short t.leaves start was × (k ≡ 12)))
+abbrev pub ListSays : Tree → ℕ → Lists → Lists → Result ℕ Refusal → Type 0
+ListSays t start was left (Ok n) = Sound t × Wrote t.leaves start n was left
+ListSays t start was left (Err e) =
+    (left ≡ was) × (((Sound t → ⊥) × (e ≡ NotSound)) ⊎ (Sound t × Short t.leaves start was × (e ≡ ListFull)))
 
 -- ---- the same on any tables at all, where no tree need be sound
 
--- The vertices that the walk finds stand from the start place on. Refusal 12.
-abbrev pub TrustingSays : Nodes → ℕ → Lists → Lists → ListAnswer → Type 0
-TrustingSays ks start was left (Count n) =
+-- The vertices that the walk finds stand from the start place on, or there is no room.
+abbrev pub TrustingSays : Nodes → ℕ → Lists → Lists → Result ℕ Refusal → Type 0
+TrustingSays ks start was left (Ok n) =
     (n ≡ length (spots_of ks)) × Room start n was
     × (left ≡ lists_of (written was.vertices start (vertices_of (spots_of ks))) (written was.levels start (levels_of (spots_of ks))))
-TrustingSays ks start was left (Refused k) = (left ≡ was) × (Room start (length (spots_of ks)) was → ⊥) × (k ≡ 12)
+TrustingSays ks start was left (Err e) = (left ≡ was) × (Room start (length (spots_of ks)) was → ⊥) × (e ≡ ListFull)

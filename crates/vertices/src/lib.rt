@@ -1,24 +1,19 @@
 #![tactic(auto)]
 // The vertices of a finished tree. From `compute_primal_vertices` in src/linear_hashed_marching_cubes.rs of isosurface 0.0.4.
-ghost use Rattle.std.specs.Prelude.{◌≡◌, true, false, ◌+◌, ◌-◌, ◌*◌, ◌/◌, ◌^◌, ◌<◌, ◌≤◌, length};
+ghost use Rattle.std.specs.Prelude.{◌≡◌, true, false, ◌+◌, ◌-◌, ◌*◌, ◌/◌, ◌^◌, ◌<◌, ◌≤◌, length, get_or};
 ghost use Rattle.morton.specs.Level.{limit, Cell};
 ghost use Rattle.morton.specs.Field.{sub};
-ghost use Rattle.tree.specs.Tree.{tree_of, Decides};
+ghost use Rattle.tree.specs.Tree.{the_tree, Decides};
 ghost use Rattle.vertices.specs.Walk.{divided, low_corner, walked, spots_of, most_of};
 ghost use Rattle.std.proofs.lemmas.List.Edits.{sets};
 ghost use Rattle.vertices.specs.Listing.{lists_of, ListSays, TrustingSays};
 ghost use Rattle.vertices.specs.Cells.{eight, cells_of, CellsSays};
-ghost use Rattle.tree.specs.Down.{nodes_of};
+ghost use Rattle.tree.specs.Down.{the_nodes};
 ghost use Rattle.vertices.specs.Block.{seen_by, kept_by, marked, Here, Small, ChildlessSays, ChildMarks, BelowMarks, SeenSays, LoweredMarks, Touched, PutSays, RoundSays, Laid, Near, Each16, lowered_place, LoweredAt, Stored, TakeSays, Skipped};
 
 use morton::Key;
-
-// How many vertices there are, or the number of the refusal.
-#[derive(Clone, Copy)]
-pub enum ListAnswer {
-    Count(usize),
-    Refused(u32),
-}
+use refusals::Refusal;
+use tree::{Nodes, Tree};
 
 // The walk goes over the cells from the root down (specs/Walk.antt), and so finds the vertices in order. It carries where a cell's eight entries stand,
 // of a split one where its first child does; a mask of those that are split, bit o being set where entry o has the cell's own level and children; and three
@@ -48,17 +43,17 @@ fn childless(firsts: &[u16], place: usize) -> bool
 }
 
 // Which children of a node are split themselves, the first of them standing at a place.
-fn split_children(keys: &[u64], firsts: &[u16], first: usize, node: u64) -> u64
+fn split_children(nodes: &Nodes, first: usize, node: u64) -> u64
     requires { (first ≤ 2 ^ 62) × (node < 2 ^ 57) }
-    ensures { ChildMarks (nodes_of keys.now firsts.now) first node result }
+    ensures { ChildMarks (the_nodes nodes.now) first node result }
 {
-    if childless(firsts, first) {
+    if childless(nodes.firsts, first) {
         return 0;
     }
     let mut mask = 0;
     for w in 0..8 {
-        let below = tree::first_at(firsts, first + w);
-        if tree::leads(keys, below, 64 * node + 8 * w as u64) {
+        let below = nodes.first_at(first + w);
+        if nodes.leads(below, 64 * node + 8 * w as u64) {
             mask += 1 << w;
         }
     }
@@ -76,14 +71,14 @@ fn lower_cell(cell: u64, o: usize) -> u64
 }
 
 // The same for each split entry of a block, eight bits for each entry: it is the cell that lies that way.
-fn split_below(keys: &[u64], firsts: &[u16], cell: u64, at: &[u32], mask: u64) -> u64
+fn split_below(nodes: &Nodes, cell: u64, at: &[u32], mask: u64) -> u64
     requires { Small cell mask × Near at.now }
-    ensures { BelowMarks (nodes_of keys.now firsts.now) cell at.now mask result }
+    ensures { BelowMarks (the_nodes nodes.now) cell at.now mask result }
 {
     let mut below = 0;
     for o in 0..8 {
         if marked(mask, o) {
-            below += split_children(keys, firsts, at[o] as usize, lower_cell(cell, o)) << (8 * o);
+            below += split_children(nodes, at[o] as usize, lower_cell(cell, o)) << (8 * o);
         }
     }
     below
@@ -275,15 +270,15 @@ fn take(
 }
 
 // The places of child q's entries; of the split ones, those of their first children.
-fn lower_at(firsts: &[u16], at: &[u32], mask: u64, child: u64, q: usize) -> [u32; 8]
-    requires { (q < 8) × Near at.now × Each16 firsts.now }
-    ensures { LoweredAt firsts.now at.now mask child q result }
+fn lower_at(nodes: &Nodes, at: &[u32], mask: u64, child: u64, q: usize) -> [u32; 8]
+    requires { (q < 8) × Near at.now × Each16 nodes.now.firsts.now }
+    ensures { LoweredAt nodes.now.firsts.now at.now mask child q result }
 {
     let mut out = [0u32; 8];
     for o in 0..8 {
         let place = lower_place(at, mask, q, o);
         if marked(child, o) {
-            out[o] = tree::first_at(firsts, place as usize) as u32;
+            out[o] = nodes.first_at(place as usize) as u32;
         } else {
             out[o] = place;
         }
@@ -293,8 +288,7 @@ fn lower_at(firsts: &[u16], at: &[u32], mask: u64, child: u64, q: usize) -> [u32
 
 // Writes the wanted vertices of a divided cell from place n on, up to so many; the place after the last.
 fn gather(
-    keys: &[u64],
-    firsts: &[u16],
+    nodes: &Nodes,
     from: u64,
     room: usize,
     level: u8,
@@ -307,13 +301,13 @@ fn gather(
     places: &mut [usize],
     n: usize,
 ) -> usize
-    requires here { Here (nodes_of keys.now firsts.now) level cell at.now mask low }
-    requires cell_value { divided (nodes_of keys.now firsts.now) level cell ≡ true }
-    requires n_le_room { (n ≤ room) × (level < limit) × Each16 firsts.now }
-    ensures { Stored (nodes_of keys.now firsts.now) from room (walked (limit - level) (nodes_of keys.now firsts.now) level cell) n result
+    requires here { Here (the_nodes nodes.now) level cell at.now mask low }
+    requires cell_value { divided (the_nodes nodes.now) level cell ≡ true }
+    requires n_le_room { (n ≤ room) × (level < limit) × Each16 nodes.now.firsts.now }
+    ensures { Stored (the_nodes nodes.now) from room (walked (limit - level) (the_nodes nodes.now) level cell) n result
         (cells_of vertices.old levels.old places.old) (cells_of vertices.new levels.new places.new) }
 {
-    let below = split_below(keys, firsts, cell, at, mask);
+    let below = split_below(nodes, cell, at, mask);
     let deeper = level + 1;
     let mut m = n;
     for q in 0..8 {
@@ -330,10 +324,9 @@ fn gather(
                 );
             }
         } else if u32::from(deeper) < morton::LIMIT {
-            let lowered = lower_at(firsts, at, mask, child_mask, q);
+            let lowered = lower_at(nodes, at, mask, child_mask, q);
             m = gather(
-                keys,
-                firsts,
+                nodes,
                 from,
                 room,
                 deeper,
@@ -351,38 +344,44 @@ fn gather(
     m
 }
 
+// What the table of first children says of the root; 0 if it is empty. That each of its numbers has 16 bits is known here, where it is lent by itself.
+fn root_child(firsts: &[u16]) -> u32
+    ensures value { result ≡ get_or firsts.now 0 0 }
+    ensures each { Each16 firsts.now }
+{
+    u32::from(firsts.first().copied().unwrap_or(0))
+}
+
 // The vertices of the whole tree from a number on, up to so many.
 fn from_root(
-    keys: &[u64],
-    firsts: &[u16],
+    nodes: &Nodes,
     from: u64,
     room: usize,
     vertices: &mut [u64],
     levels: &mut [u8],
     places: &mut [usize],
 ) -> usize
-    ensures { Stored (nodes_of keys.now firsts.now) from room (spots_of (nodes_of keys.now firsts.now)) 0 result
+    ensures { Stored (the_nodes nodes.now) from room (spots_of (the_nodes nodes.now)) 0 result
         (cells_of vertices.old levels.old places.old) (cells_of vertices.new levels.new places.new) }
 {
-    let first = tree::first_at(firsts, 0);
-    if tree::leads(keys, first, 8) {
+    let first = root_child(nodes.firsts);
+    if nodes.leads(first as usize, 8) {
         // The root is alone in its block, and at all three sides.
-        let at = [first as u32, 0, 0, 0, 0, 0, 0, 0];
+        let at = [first, 0, 0, 0, 0, 0, 0, 0];
         return gather(
-            keys, firsts, from, room, 0, 1, &at, 1, 7, vertices, levels, places, 0,
+            nodes, from, room, 0, 1, &at, 1, 7, vertices, levels, places, 0,
         );
     }
     0
 }
 
 // Lists the whole tree from the tables' first place on; the number of its vertices.
-fn whole(keys: &[u64], firsts: &[u16], vertices: &mut [u64], levels: &mut [u8]) -> usize
-    ensures { Laid (spots_of (nodes_of keys.now firsts.now)) 0 result vertices.old levels.old vertices.new levels.new }
+fn whole(nodes: &Nodes, vertices: &mut [u64], levels: &mut [u8]) -> usize
+    ensures { Laid (spots_of (the_nodes nodes.now)) 0 result vertices.old levels.old vertices.new levels.new }
 {
     let mut no_places = [0usize; 1];
     from_root(
-        keys,
-        firsts,
+        nodes,
         0,
         0x4000000000000000,
         vertices,
@@ -405,69 +404,64 @@ fn most_vertices(keys: usize) -> usize
 
 // Whether the list has room in tables of so many places. Only where there is less room than for the most vertices that there can be are they counted,
 // into tables that don't leave the call.
-fn list_has_room(keys: &[u64], firsts: &[u16], start: usize, len: usize) -> bool
-    ensures { Decides result (start + length (spots_of (nodes_of keys.now firsts.now)) ≤ len) }
+fn list_has_room(nodes: &Nodes, start: usize, len: usize) -> bool
+    ensures { Decides result (start + length (spots_of (the_nodes nodes.now)) ≤ len) }
 {
-    if has_room(len, start, most_vertices(keys.len())) {
+    if has_room(len, start, most_vertices(nodes.keys.len())) {
         return true;
     }
     let mut no_vertices = [0u64; 1];
     let mut no_levels = [0u8; 1];
-    let n = whole(keys, firsts, &mut no_vertices, &mut no_levels);
+    let n = whole(nodes, &mut no_vertices, &mut no_levels);
     has_room(len, start, n)
 }
 
 // The list of a tree's vertices, written from a start place on, for one who knows that the tree is sound; of other tables, what the same walk comes
 // to.
 pub fn list_trusting(
-    keys: &[u64],
-    firsts: &[u16],
+    nodes: &Nodes,
     start: usize,
     vertices: &mut [u64],
     levels: &mut [u8],
-) -> ListAnswer
-    ensures { TrustingSays (nodes_of keys.now firsts.now) start (lists_of vertices.old levels.old) (lists_of vertices.new levels.new) result }
+) -> Result<usize, Refusal>
+    ensures { TrustingSays (the_nodes nodes.now) start (lists_of vertices.old levels.old) (lists_of vertices.new levels.new) result }
 {
     let len = vertices.len().min(levels.len());
-    if !list_has_room(keys, firsts, start, len) {
-        return ListAnswer::Refused(12);
+    if !list_has_room(nodes, start, len) {
+        return Err(Refusal::ListFull);
     }
-    let n = whole(keys, firsts, &mut vertices[start..], &mut levels[start..]);
-    ListAnswer::Count(n)
+    let n = whole(nodes, &mut vertices[start..], &mut levels[start..]);
+    Ok(n)
 }
 
 // The list of a sound tree's vertices, written from a start place on.
 pub fn list(
-    keys: &[u64],
-    distances: &[f32],
-    firsts: &[u16],
-    leaves: &[u64],
+    tree: &Tree,
     start: usize,
     vertices: &mut [u64],
     levels: &mut [u8],
-) -> ListAnswer
-    ensures { ListSays (tree_of keys.now distances.now firsts.now leaves.now) start (lists_of vertices.old levels.old) (lists_of vertices.new levels.new) result }
+) -> Result<usize, Refusal>
+    ensures { ListSays (the_tree tree.now) start (lists_of vertices.old levels.old) (lists_of vertices.new levels.new) result }
 {
-    if !tree::sound(keys, distances, firsts, leaves) {
-        return ListAnswer::Refused(11);
+    if !tree.sound() {
+        return Err(Refusal::NotSound);
     }
-    list_trusting(keys, firsts, start, vertices, levels)
+    list_trusting(&tree.nodes, start, vertices, levels)
 }
 
 // The vertices from a number on, as many as have room, each with its level and the places of the eight nodes of its dual cell; how many there are. For
 // one who knows that the tree is sound; of other tables, what the same walk comes to.
 pub fn cells_trusting(
-    keys: &[u64],
-    firsts: &[u16],
+    nodes: &Nodes,
     from: u64,
     vertices: &mut [u64],
     levels: &mut [u8],
     places: &mut [usize],
 ) -> usize
-    ensures { CellsSays (nodes_of keys.now firsts.now) from (cells_of vertices.old levels.old places.old)
+    ensures { CellsSays (the_nodes nodes.now) from (cells_of vertices.old levels.old places.old)
         (cells_of vertices.new levels.new places.new) result }
 {
     let pairs = vertices.len().min(levels.len());
     let room = pairs.min(places.len() / 8);
-    from_root(keys, firsts, from, room, vertices, levels, places)
+    from_root(nodes, from, room, vertices, levels, places)
 }

@@ -16,13 +16,13 @@ loop-o-preserved c =
       | then-marked w ↦
           rw w.out-is (
             simp length-set l.invariant.0,
-            filled_more l.out l.o _ (lowered_at s.firsts.now s.at.now s.mask s.child s.q) (omega arith) l.invariant.1
+            filled_more l.out l.o _ (lowered_at s.nodes.now.firsts.now s.at.now s.mask s.child s.q) (omega arith) l.invariant.1
                 (w.first_at.ensures ∙ at_is _ _ _ _ _ l.o _ c.lower_place-place.ensures (sym c.marked.ensures ∙ w.if-marked.true)),
           )
       | else-marked w ↦
           rw w.out-is (
             simp length-set l.invariant.0,
-            filled_more l.out l.o _ (lowered_at s.firsts.now s.at.now s.mask s.child s.q) (omega arith) l.invariant.1
+            filled_more l.out l.o _ (lowered_at s.nodes.now.firsts.now s.at.now s.mask s.child s.q) (omega arith) l.invariant.1
                 (at_is _ _ _ _ _ l.o _ c.lower_place-place.ensures (sym c.marked.ensures ∙ w.if-marked.false)),
           )
     ]

@@ -6,4 +6,4 @@ use Rattle.vertices.specs.Block.{lowered_at}
 use Rattle.vertices.proofs.lower_at.Given as goal
 
 abbrev pub invariant-loop-o : goal.invariant-loop-o
-invariant-loop-o l = (length l.out ≡ 8) × ((i : ℕ) → i < l.o → get_or l.out i 0 ≡ lowered_at l.firsts l.at l.mask l.child l.q i)
+invariant-loop-o l = (length l.out ≡ 8) × ((i : ℕ) → i < l.o → get_or l.out i 0 ≡ lowered_at l.nodes.firsts.now l.at l.mask l.child l.q i)
