@@ -2,15 +2,15 @@
 // The boundary for hosts, reading: numbers and slices only. mittenhelm_reading_c exports them to C.
 ghost use Rattle.tree.specs.Tree.{tree_of, Sound, Decides};
 ghost use Rattle.vertices.specs.Listing.{lists_of};
-ghost use Rattle.mittenhelm_reading.specs.Reading.{found_at, HandsFound, HandsLookup, eight_at, HandsEight, HandsDual, HandsCount, HandsList};
+ghost use Rattle.mittenhelm_reading.specs.Reading.{found_at, HandsFound, HandsLookup, eight_at, HandsEight, HandsDual, HandsList};
 
-use dual::{Dual, Tried};
-use tree::Lookup;
-use vertices::ListAnswer;
+use dual::Dual;
+use refusals::Refusal;
+use tree::{Lookup, Nodes, Tree};
 
 // Hands a lookup over: what it found to the four out parameters, or its refusal.
 pub fn hand_found(
-    answer: Lookup,
+    answer: Result<Lookup, Refusal>,
     found: &mut u64,
     distance: &mut f32,
     place: &mut usize,
@@ -20,26 +20,28 @@ pub fn hand_found(
         (found_at found.new distance.new place.new tried.new) }
 {
     match answer {
-        Lookup::Found {
-            key: k,
-            distance: d,
-            place: p,
-            tried: n,
-        } => {
+        Ok(
+            Lookup::Found {
+                key: k,
+                distance: d,
+                place: p,
+                tried: n,
+            },
+        ) => {
             *found = k;
             *distance = d;
             *place = p;
             *tried = n;
             0
         }
-        Lookup::Nothing { tried: n } => {
+        Ok(Lookup::Nothing { tried: n }) => {
             *found = 0;
             *distance = 0.0;
             *place = 0;
             *tried = n;
             0
         }
-        Lookup::Refused(number) => number,
+        Err(refusal) => refusal.number(),
     }
 }
 
@@ -58,36 +60,27 @@ pub fn hand_eight(
     let eight = cell.keys;
     let theirs = cell.distances;
     let stand = cell.places;
-    let answer = cell.tried;
-    match answer {
-        Tried::Keys(sum) => {
+    match cell.tried {
+        Ok(sum) => {
             *nodes = eight;
             *values = theirs;
             *places = stand;
             *tried = sum;
             0
         }
-        Tried::Refused(number) => number,
-    }
-}
-
-// Hands a list over: the number of its vertices to the place, or its refusal.
-pub fn hand_count(answer: ListAnswer, count: &mut usize) -> u32
-    ensures { HandsCount answer count.old result count.new }
-{
-    match answer {
-        ListAnswer::Count(n) => {
-            *count = n;
-            0
-        }
-        ListAnswer::Refused(number) => number,
+        Err(refusal) => refusal.number(),
     }
 }
 
 pub fn mittenhelm_sound(keys: &[u64], distances: &[f32], firsts: &[u16], leaves: &[u64]) -> bool
     ensures { Decides result (Sound (tree_of keys.now distances.now firsts.now leaves.now)) }
 {
-    tree::sound(keys, distances, firsts, leaves)
+    let tree = Tree {
+        nodes: Nodes { keys, firsts },
+        distances,
+        leaves,
+    };
+    tree.sound()
 }
 
 pub fn mittenhelm_look_up(
@@ -105,7 +98,12 @@ pub fn mittenhelm_look_up(
         (found_at found.old distance.old place.old tried.old) result
         (found_at found.new distance.new place.new tried.new) }
 {
-    let answer = tree::look_up(keys, distances, firsts, leaves, key);
+    let tree = Tree {
+        nodes: Nodes { keys, firsts },
+        distances,
+        leaves,
+    };
+    let answer = tree.look_up(key);
     hand_found(answer, found, distance, place, tried)
 }
 
@@ -123,8 +121,13 @@ pub fn mittenhelm_list(
         (lists_of vertices.old levels.old) (lists_of vertices.new levels.new)
         count.old result count.new }
 {
-    let answer = vertices::list(keys, distances, firsts, leaves, start, vertices, levels);
-    hand_count(answer, count)
+    let tree = Tree {
+        nodes: Nodes { keys, firsts },
+        distances,
+        leaves,
+    };
+    let answer = vertices::list(&tree, start, vertices, levels);
+    refusals::hand(answer, count)
 }
 
 pub fn mittenhelm_dual_cell(
@@ -143,6 +146,11 @@ pub fn mittenhelm_dual_cell(
         (eight_at nodes.old values.old places.old tried.old) result
         (eight_at nodes.new values.new places.new tried.new) }
 {
-    let cell = dual::dual_cell(keys, distances, firsts, leaves, vertex, level);
+    let tree = Tree {
+        nodes: Nodes { keys, firsts },
+        distances,
+        leaves,
+    };
+    let cell = dual::dual_cell(&tree, vertex, level);
     hand_eight(cell, nodes, values, places, tried)
 }

@@ -4,22 +4,21 @@ ghost use Rattle.tree.specs.Tree.{tree_of};
 ghost use Rattle.tree.specs.Down.{nodes_of};
 ghost use Rattle.mittenhelm_slabs.specs.Spans.{span_at, HandsSpan, HandsSlabs, HandsTrustedSlabs};
 
-use slabs::SlabsAnswer;
+use refusals::Refusal;
+use slabs::Reach;
+use tree::{Nodes, Tree};
 
 // Hands slabs over: the first and the last to the two out parameters, or their refusal.
-fn hand_span(answer: SlabsAnswer, first: &mut u32, last: &mut u32) -> u32
+fn hand_span(answer: Result<Reach, Refusal>, first: &mut u32, last: &mut u32) -> u32
     ensures { HandsSpan answer (span_at first.old last.old) result (span_at first.new last.new) }
 {
     match answer {
-        SlabsAnswer::Reach {
-            first: low,
-            last: high,
-        } => {
-            *first = low;
-            *last = high;
+        Ok(reach) => {
+            *first = reach.first;
+            *last = reach.last;
             0
         }
-        SlabsAnswer::Refused(number) => number,
+        Err(refusal) => refusal.number(),
     }
 }
 
@@ -37,7 +36,12 @@ pub fn mittenhelm_slabs(
     ensures { HandsSlabs (tree_of keys.now distances.now firsts.now leaves.now) level vertex exponent
         (span_at first.old last.old) result (span_at first.new last.new) }
 {
-    let answer = slabs::slabs(keys, distances, firsts, leaves, vertex, level, exponent);
+    let tree = Tree {
+        nodes: Nodes { keys, firsts },
+        distances,
+        leaves,
+    };
+    let answer = slabs::slabs(&tree, vertex, level, exponent);
     hand_span(answer, first, last)
 }
 
@@ -53,6 +57,7 @@ pub fn mittenhelm_slabs_trusting(
     ensures { HandsTrustedSlabs (nodes_of keys.now firsts.now) level vertex exponent
         (span_at first.old last.old) result (span_at first.new last.new) }
 {
-    let answer = slabs::slabs_trusting(keys, firsts, vertex, level, exponent);
+    let nodes = Nodes { keys, firsts };
+    let answer = slabs::slabs_trusting(&nodes, vertex, level, exponent);
     hand_span(answer, first, last)
 }

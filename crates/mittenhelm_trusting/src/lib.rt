@@ -7,6 +7,8 @@ ghost use Rattle.vertices.specs.Cells.{cells_of, CellsSays};
 ghost use Rattle.mittenhelm_reading.specs.Reading.{found_at, HandsFound, eight_at};
 ghost use Rattle.mittenhelm_trusting.specs.Trusting.{HandsTrustedList, HandsTrustedDual};
 
+use tree::Nodes;
+
 pub fn mittenhelm_look_up_trusting(
     keys: &[u64],
     distances: &[f32],
@@ -21,7 +23,8 @@ pub fn mittenhelm_look_up_trusting(
         (found_at found.old distance.old place.old tried.old) result
         (found_at found.new distance.new place.new tried.new) }
 {
-    let answer = tree::look_up_trusting(keys, distances, firsts, key);
+    let nodes = Nodes { keys, firsts };
+    let answer = nodes.look_up_trusting(distances, key);
     mittenhelm_reading::hand_found(answer, found, distance, place, tried)
 }
 
@@ -37,8 +40,9 @@ pub fn mittenhelm_list_trusting(
         (lists_of vertices.old levels.old) (lists_of vertices.new levels.new)
         count.old result count.new }
 {
-    let answer = vertices::list_trusting(keys, firsts, start, vertices, levels);
-    mittenhelm_reading::hand_count(answer, count)
+    let nodes = Nodes { keys, firsts };
+    let answer = vertices::list_trusting(&nodes, start, vertices, levels);
+    refusals::hand(answer, count)
 }
 
 pub fn mittenhelm_cells_trusting(
@@ -52,7 +56,8 @@ pub fn mittenhelm_cells_trusting(
     ensures { CellsSays (nodes_of keys.now firsts.now) from (cells_of vertices.old levels.old places.old)
         (cells_of vertices.new levels.new places.new) result }
 {
-    vertices::cells_trusting(keys, firsts, from, vertices, levels, places)
+    let nodes = Nodes { keys, firsts };
+    vertices::cells_trusting(&nodes, from, vertices, levels, places)
 }
 
 pub fn mittenhelm_dual_cell_trusting(
@@ -70,6 +75,7 @@ pub fn mittenhelm_dual_cell_trusting(
         (eight_at nodes.old values.old places.old tried.old) result
         (eight_at nodes.new values.new places.new tried.new) }
 {
-    let cell = dual::dual_cell_trusting(keys, distances, firsts, vertex, level);
+    let tables = Nodes { keys, firsts };
+    let cell = dual::dual_cell_trusting(&tables, distances, vertex, level);
     mittenhelm_reading::hand_eight(cell, nodes, values, places, tried)
 }
