@@ -1,5 +1,5 @@
 -- What some definitions say, said again in other words: a child by its coordinates, a sum by its undoing, an extent by the corners. Assumes nothing.
-use Rattle.std.proofs.Common.{◌≡◌, ℕ, suc, ◌+◌, ◌-◌, ◌*◌, ◌/◌, ◌%◌, ◌^◌, ◌<◌, ◌≤◌, not, sym, ap, ◌∙◌, subst, mod-lt, mod-eq_of_lt, mul_assoc, mul_left_comm, add-one, arith, pow_pos, pow_mono, le-ltb, ne_eqb}
+use Rattle.std.proofs.Common.{◌≡◌, ℕ, suc, ◌+◌, ◌-◌, ◌*◌, ◌/◌, ◌%◌, ◌^◌, ◌<◌, ◌≤◌, sym, ap, ◌∙◌, subst, mod-lt, mod-eq_of_lt, mul_assoc, mul_left_comm, add-one, arith, pow_pos, pow_mono, le-ltb, ne_eqb}
 use native.Mathlib.Nat.{pow-succ', add-mod_right}
 use native.Mathlib.Decide.{dec_lt}
 use lib.Ieee.{Float, nan, inf, fin, binary32, up, down, add as plus}
@@ -11,19 +11,17 @@ use Rattle.morton.proofs.Cells.{child_cell}
 use Rattle.morton.proofs.Dilated.{third_lt}
 use Rattle.morton.proofs.Fields.{coord_lt, field_word, word_field, weave_ext, key_coord, key_ext, coord_child}
 use Rattle.morton.proofs.Levels.{level_le, cell_level, cell_is}
-use Rattle.morton.proofs.Refusals.{passed}
 use Rattle.morton.proofs.Rounding.{add_exactly}
 
 -- child w has the coordinates of its cell doubled, and the bits of w
 pub child_given : (L n w : ℕ) → L ≤ 20 → Cell L n → w ≤ 7 → child_of n w ≡ the_key (key (suc L) (λ a. 2 * coord L n a + bit a w))
 child_given L n w h c hw =
     let own : level n ≡ L = cell_level L n (omega arith) c in
-    sym (passed _ 1 _ (ap not (cell_is L n (omega arith) c))
-    (passed _ 2 _ (le-ltb 7 w hw)
-    (passed _ 3 _ (ne_eqb (level n) deepest (λ e. omega (arith, own, e)))
+    rw (cell_is L n (omega arith) c, le-ltb 7 w hw, ne_eqb (level n) deepest (λ e. omega (arith, own, e)))
     (ap the_key
+    (sym
     (key_ext (suc L) (λ a. 2 * coord L n a + bit a w) (coord (suc L) (8 * n + w)) (λ a l. omega (arith, coord_child L n w a hw l))
-    ∙ key_coord (suc L) (8 * n + w) (child_cell L n w c hw))))))
+    ∙ key_coord (suc L) (8 * n + w) (child_cell L n w c hw))))
 
 -- ---- a sum less one of its parts is the other part: no field loses a bit
 

@@ -1,77 +1,51 @@
 -- `Key::vertex` meets its contract. Assumes nothing.
--- past the refusals: t is what `is_cell` answered, l what `level` did
-use Rattle.std.proofs.Common.{◌≡◌, ℕ, ◌-◌, ◌*◌, ◌%◌, ◌^◌, ◌≤◌, Bool, true, false, not, sym, ap, ◌∙◌, subst, arith, eq-eqb, ne_eqb}
-use borrow.Author.Tests.{not-false}
-use Rattle.morton.specs.declared.KeyAnswer.{KeyAnswer}
-use Rattle.morton.specs.Answers.{the_key, vertex_answer}
+use Rattle.std.proofs.Common.{◌≡◌, ℕ, ◌-◌, ◌*◌, ◌%◌, ◌^◌, ◌≤◌, true, false, arith, sym, ◌∙◌, subst, ap}
+use Rattle.std.proofs.lemmas.Grind.{common_steps}
 use Rattle.morton.specs.Field.{add}
 use Rattle.morton.specs.Level.{deepest, level, Cell, is_cell}
 use Rattle.morton.specs.Vertex.{vertex_of, is_inside}
 use Rattle.morton.proofs.Levels.{level_le, above_deepest, is_cell_lem}
-use Rattle.morton.proofs.Refusals.{given, passed, no_cell, no_eighth, eighth_passed}
 use Rattle.morton.proofs.Vertices.{vertex_deep, vertex_none, vertex_code}
 use Rattle.morton.proofs.Key.vertex.Goals as goal
 
--- past the refusals: t is what `is_cell` answered, l what `level` did
-module _ (n L w l : ℕ) (t : Bool) (e : t ≡ is_cell n) (f : not t ≡ false) (few : w ≤ 7) (g : l ≡ level n) (own : l ≡ L) where
-  accepted : {a : KeyAnswer} → a ≡ the_key (vertex_of L n w) → a ≡ vertex_answer n L w
-  accepted h =
-      eighth_passed n t _ e w f few (passed _ 3 _ (ap not (eq-eqb (level n) L (sym g ∙ own))) h)
-
+-- past the refusals: l is what `cell_level` answered
+module _ (n L w l : ℕ) (is : (is_cell n ≡ true) × (l ≡ level n)) (few : w ≤ 7) (own : l ≡ L) (deep : L ≡ deepest → ⊥) where
   cell : Cell L n
-  cell = subst (λ (x : ℕ). Cell x n) (sym g ∙ own) (is_cell_lem n (sym e ∙ not-false t f))
+  cell = subst (λ (x : ℕ). Cell x n) (sym is.1 ∙ own) (is_cell_lem n is.0)
 
-  module _ (deep : L ≡ deepest → ⊥) where
-    shallow : L ≤ 20
-    shallow = above_deepest L (subst (λ (x : ℕ). x ≤ deepest) (sym g ∙ own) (level_le n)) deep
+  shallow : L ≤ 20
+  shallow = above_deepest L (subst (λ (x : ℕ). x ≤ deepest) (sym is.1 ∙ own) (level_le n)) deep
 
-    -- s is the sum, u what `is_inside` answered of it
-    module _ (s : ℕ) (u : Bool) (p : s ≡ add n w) (q : u ≡ is_inside L s) where
-      tested : u ≡ is_inside L (add n w)
-      tested = q ∙ ap (is_inside L) p
+  there : is_inside L (add n w) ≡ true → (add n w * 2 ^ (63 - L * 3)) % 2 ^ 64 ≡ vertex_of L n w
+  there = vertex_code L n w shallow cell few
 
-      there : u ≡ true → the_key ((s * 2 ^ (63 - L * 3)) % 2 ^ 64) ≡ vertex_answer n L w
-      there i = accepted (ap the_key (ap (λ (x : ℕ). (x * 2 ^ (63 - L * 3)) % 2 ^ 64) p ∙ vertex_code L n w shallow cell few (sym tested ∙ i)))
-
-      none : u ≡ false → the_key 0 ≡ vertex_answer n L w
-      none i = accepted (ap the_key (sym (vertex_none L n w shallow cell few (sym tested ∙ i))))
-
-pub returns-then-not-is_cell : goal.returns-then-not-is_cell
-returns-then-not-is_cell c = no_cell _ _ _ c.is_cell.ensures (ap not c.if-not-is_cell.true)
-
-pub returns-then-corner-gt7 : goal.returns-then-corner-gt7
-returns-then-corner-gt7 c = no_eighth _ _ _ c.is_cell.ensures _ (ap not c.if-not-is_cell.false) c.if-corner-gt7.true
-
-pub returns-then-level : goal.returns-then-level
-returns-then-level c =
-    eighth_passed _ _ _ c.is_cell.ensures _ (ap not c.if-not-is_cell.false) c.if-corner-gt7.false
-    (given _ 3 _ (ap not (ne_eqb _ c.args.level (λ e. c.if-level.true (c.level.ensures ∙ e)))))
+  none : is_inside L (add n w) ≡ false → vertex_of L n w ≡ 0
+  none = vertex_none L n w shallow cell few
 
 pub returns-then-level-eq-DEEPEST : goal.returns-then-level-eq-DEEPEST
 returns-then-level-eq-DEEPEST c =
     let a = c.args in
-    accepted a.self.code a.level a.corner c.level.result _ c.is_cell.ensures (ap not c.if-not-is_cell.false) c.if-corner-gt7.false c.level.ensures c.if-level.false
-    (ap the_key (sym (ap (λ (x : ℕ). vertex_of x a.self.code a.corner) c.if-level-eq-DEEPEST.true ∙ vertex_deep a.self.code a.corner)))
+    let e : vertex_of a.level a.self.code a.corner ≡ 0
+    = ap (λ (x : ℕ). vertex_of x a.self.code a.corner) c.if-level-eq-DEEPEST.true ∙ vertex_deep a.self.code a.corner in
+    grind (arith, common_steps)
 
 pub is_inside-requires : goal.is_inside-requires
-is_inside-requires c =
-    let a = c.args in
-    shallow a.self.code a.level a.corner c.level.result _ c.is_cell.ensures (ap not c.if-not-is_cell.false) c.if-corner-gt7.false c.level.ensures c.if-level.false c.if-level-eq-DEEPEST.false
+is_inside-requires c = shallow _ _ _ _ c.in_ok-own.ensures c.if-corner-gt7.false c.if-own-level.false c.if-level-eq-DEEPEST.false
 
 pub overflow_mul-result : goal.overflow_mul-result
-overflow_mul-result c = omega (arith, level_le c.args.self.code, c.level.ensures, c.if-level.false)
+overflow_mul-result c = omega (arith, level_le c.args.self.code, c.in_ok-own.ensures)
 
 pub overflow_sub-result : goal.overflow_sub-result
-overflow_sub-result c = omega (arith, level_le c.args.self.code, c.level.ensures, c.if-level.false)
+overflow_sub-result c = omega (arith, level_le c.args.self.code, c.in_ok-own.ensures)
 
 pub returns-then-is_inside : goal.returns-then-is_inside
 returns-then-is_inside c =
     let a = c.args in
-    there a.self.code a.level a.corner c.level.result _ c.is_cell.ensures (ap not c.if-not-is_cell.false) c.if-corner-gt7.false c.level.ensures c.if-level.false c.if-level-eq-DEEPEST.false
-    c.add-v.result.code _ c.add-v.ensures c.is_inside.ensures c.if-is_inside.true
+    let v = there a.self.code a.level a.corner _ c.in_ok-own.ensures c.if-corner-gt7.false c.if-own-level.false c.if-level-eq-DEEPEST.false in
+    grind (arith, common_steps)
 
 pub returns-else-is_inside : goal.returns-else-is_inside
 returns-else-is_inside c =
     let a = c.args in
-    none a.self.code a.level a.corner c.level.result _ c.is_cell.ensures (ap not c.if-not-is_cell.false) c.if-corner-gt7.false c.level.ensures c.if-level.false c.if-level-eq-DEEPEST.false
-    c.add-v.result.code _ c.add-v.ensures c.is_inside.ensures c.if-is_inside.false
+    let v = none a.self.code a.level a.corner _ c.in_ok-own.ensures c.if-corner-gt7.false c.if-own-level.false c.if-level-eq-DEEPEST.false in
+    grind (arith, common_steps)
