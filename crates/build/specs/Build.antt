@@ -7,6 +7,7 @@ use Rattle.morton.specs.Field.{coord}
 use Rattle.morton.specs.Split.{splits}
 use Rattle.refusals.specs.declared.Refusal.{Refusal}
 use Rattle.refusals.specs.declared.Refusal.TheVariants.{AboveFifteen, NodesFull, LeavesFull, QueueFull, NothingAsked, NotFitting, NotFinite}
+use Rattle.build.specs.declared.Tables as lent
 use Rattle.build.specs.declared.Lengths.{Lengths}
 use Rattle.build.specs.declared.Request.{Request}
 use Rattle.build.specs.declared.State.{State}
@@ -24,6 +25,18 @@ pub record Tables : Type 0 where
 abbrev pub tables_of : List ℕ → List Float → List ℕ → List ℕ → List ℕ → Tables
 tables_of keys distances firsts leaves queue =
     record { keys = keys; distances = distances; firsts = firsts; leaves = leaves; queue = queue }
+
+-- What stands in the tables that are lent.
+abbrev pub tables_in : lent.Tables → Tables
+tables_in t = tables_of t.keys.now t.distances.now t.firsts.now t.leaves.now t.queue.now
+
+-- They are the same tables, whatever stands in them.
+pub record SameTables (was left : lent.Tables) : Type 0 where
+  pub keys : left.keys.ghost_name ≡ was.keys.ghost_name
+  pub distances : left.distances.ghost_name ≡ was.distances.ghost_name
+  pub firsts : left.firsts.ghost_name ≡ was.firsts.ghost_name
+  pub leaves : left.leaves.ghost_name ≡ was.leaves.ghost_name
+  pub queue : left.queue.ghost_name ≡ was.queue.ghost_name
 
 unfoldable pub lengths_of : Tables → Lengths
 lengths_of t =
@@ -202,10 +215,14 @@ unfoldable pub distance_of : State → Float → Tables → Outcome
 distance_of s d t = decide_of s (split_of s d) d t
 
 -- A start takes a depth bound 0 to 15, else 5. The root is asked for first.
-unfoldable pub start_of : ℕ → Tables → Result Answer Refusal
-start_of bound t =
+unfoldable pub start_at : ℕ → Lengths → Result Answer Refusal
+start_at bound z =
     cond (ltb limit bound) (Err AboveFifteen)
-    (Ok (Ask (request_of 1) (record { bound = bound; nodes = 0; leaves = 0; asked = 1; lengths = lengths_of t })))
+    (Ok (Ask (request_of 1) (record { bound = bound; nodes = 0; leaves = 0; asked = 1; lengths = z })))
+
+-- Of the tables nothing but their lengths is read.
+unfoldable pub start_of : ℕ → Tables → Result Answer Refusal
+start_of bound t = start_at bound (lengths_of t)
 
 -- ---- for the private steps
 

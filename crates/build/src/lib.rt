@@ -2,9 +2,9 @@
 // The octree over a distance field, built one request at a time. From `build` in src/linear_hashed_octree.rs of isosurface 0.0.4: its hash
 // map and queue are tables that the host lends, and its closures are requests that the host answers.
 ghost use Rattle.std.specs.Prelude.{◌≡◌, ◌+◌, ◌*◌, ◌%◌, ◌<◌, ◌≤◌, ◌^◌, min, length, Ok};
-ghost use Rattle.build.specs.Build.{tables_of, lengths_of, node_room, finest, item_at, request_of, cell_to, Ready};
+ghost use Rattle.build.specs.Build.{tables_in, SameTables, lengths_of, node_room, finest, item_at, request_of, cell_to, Ready};
 ghost use Rattle.build.specs.Build.{same_lengths, counts_fit, idle_fits, busy_fits, fits_at, full_of, refusal_at, refusal_of, split_of};
-ghost use Rattle.build.specs.Build.{children_to, leaves_of, stored_of, advance_of, accept_of, distance_of, start_of, outcome};
+ghost use Rattle.build.specs.Build.{children_to, leaves_of, stored_of, advance_of, accept_of, distance_of, start_at, outcome};
 
 use morton::Key;
 use refusals::Refusal;
@@ -20,6 +20,16 @@ pub struct Lengths {
     pub firsts: usize,
     pub leaves: usize,
     pub queue: usize,
+}
+
+// What a host lends: node keys, node distances, first children, leaf keys, a queue.
+#[derive(Drop)]
+pub struct Tables<'a> {
+    pub keys: &'a mut [u64],
+    pub distances: &'a mut [f32],
+    pub firsts: &'a mut [u16],
+    pub leaves: &'a mut [u64],
+    pub queue: &'a mut [u64],
 }
 
 // A cell whose distance is asked for: its key, its centre and its half size.
@@ -247,57 +257,13 @@ fn refusal_at(
     full(s, split)
 }
 
-fn lengths_of(
-    keys: &[u64],
-    distances: &[f32],
-    firsts: &[u16],
-    leaves: &[u64],
-    queue: &[u64],
-) -> Lengths
-    ensures { result ≡ lengths_of (tables_of keys.now distances.now firsts.now leaves.now queue.now) }
-{
-    Lengths {
-        keys: keys.len(),
-        distances: distances.len(),
-        firsts: firsts.len(),
-        leaves: leaves.len(),
-        queue: queue.len(),
-    }
-}
-
-fn refusal_of(
-    s: State,
-    distance: f32,
-    keys: &[u64],
-    distances: &[f32],
-    firsts: &[u16],
-    leaves: &[u64],
-    queue: &[u64],
-) -> Result<(), Refusal>
-    ensures { result ≡ refusal_of s (split_of s distance) distance (tables_of keys.now distances.now firsts.now leaves.now queue.now) }
-{
-    let z = lengths_of(keys, distances, firsts, leaves, queue);
-    let next = item_at(queue, s.nodes);
-    let room = node_room(z);
-    let top = s.bound.max(2);
-    refusal_at(s, z, next, distance, room, top)
-}
-
 // Begins a build over tables of these lengths: the root is asked for first.
-pub fn start(
-    bound: u32,
-    keys: &[u64],
-    distances: &[f32],
-    firsts: &[u16],
-    leaves: &[u64],
-    queue: &[u64],
-) -> Result<Answer, Refusal>
-    ensures { result ≡ start_of bound (tables_of keys.now distances.now firsts.now leaves.now queue.now) }
+pub fn start(bound: u32, lengths: Lengths) -> Result<Answer, Refusal>
+    ensures { result ≡ start_at bound lengths }
 {
     if bound > morton::LIMIT {
         return Err(Refusal::AboveFifteen);
     }
-    let lengths = lengths_of(keys, distances, firsts, leaves, queue);
     Ok(Answer::Ask(
         root(),
         State {
@@ -322,103 +288,101 @@ fn put_children(queue: &mut [u64], key: u64, item: usize)
     }
 }
 
-// The answer of an accepted call, `leaves` being how many there are now.
-fn advance(s: State, leaves: usize, queue: &[u64]) -> Answer
-    requires { (s.nodes < 4096) × (leaves ≤ s.nodes + 1) }
-    ensures { result ≡ advance_of s leaves queue.now }
-{
-    let n = s.nodes;
-    let lengths = s.lengths;
-    if n < 8 * (n + 1 - leaves) {
-        let key = item_at(queue, n);
-        let next = ask_for(key);
-        Answer::Ask(
-            next,
-            State {
+impl Tables<'_> {
+    pub fn lengths(&self) -> Lengths
+        ensures { result ≡ lengths_of (tables_in self.now) }
+    {
+        Lengths {
+            keys: self.keys.len(),
+            distances: self.distances.len(),
+            firsts: self.firsts.len(),
+            leaves: self.leaves.len(),
+            queue: self.queue.len(),
+        }
+    }
+
+    fn refusal_of(&self, s: State, distance: f32) -> Result<(), Refusal>
+        ensures { result ≡ refusal_of s (split_of s distance) distance (tables_in self.now) }
+    {
+        let z = self.lengths();
+        let next = item_at(self.queue, s.nodes);
+        let room = node_room(z);
+        // The level of the finest grid.
+        let top = s.bound.max(2);
+        refusal_at(s, z, next, distance, room, top)
+    }
+
+    // The answer of an accepted call, `leaves` being how many there are now.
+    fn advance(&self, s: State, leaves: usize) -> Answer
+        requires { (s.nodes < 4096) × (leaves ≤ s.nodes + 1) }
+        ensures { result ≡ advance_of s leaves self.now.queue.now }
+    {
+        let n = s.nodes;
+        let lengths = s.lengths;
+        if n < 8 * (n + 1 - leaves) {
+            let key = item_at(self.queue, n);
+            let next = ask_for(key);
+            Answer::Ask(
+                next,
+                State {
+                    bound: s.bound,
+                    nodes: n + 1,
+                    leaves,
+                    asked: key,
+                    lengths,
+                },
+            )
+        } else {
+            Answer::Finished(State {
                 bound: s.bound,
                 nodes: n + 1,
                 leaves,
-                asked: key,
+                asked: 0,
                 lengths,
-            },
-        )
-    } else {
-        Answer::Finished(State {
-            bound: s.bound,
-            nodes: n + 1,
-            leaves,
-            asked: 0,
-            lengths,
-        })
+            })
+        }
     }
-}
 
-// Stores the asked cell, as a leaf or with its children queued, and says how many leaves there are then. Item j becomes node j + 1, the
-// root being node 0 and no item: so a first child's place is known before its distance is.
-fn store(
-    s: State,
-    keys: &mut [u64],
-    distances: &mut [f32],
-    firsts: &mut [u16],
-    leaves: &mut [u64],
-    queue: &mut [u64],
-    distance: f32,
-    split: bool,
-) -> usize
-    requires { Ready s split (tables_of keys.old distances.old firsts.old leaves.old queue.old) }
-    ensures { (result ≡ leaves_of s split)
-        × (tables_of keys.new distances.new firsts.new leaves.new queue.new
-        ≡ stored_of s split distance (tables_of keys.old distances.old firsts.old leaves.old queue.old)) }
-{
-    let n = s.nodes;
-    let m = s.leaves;
-    let key = s.asked;
-    keys[n] = key;
-    distances[n] = distance;
-    if split {
-        let item = 8 * (n - m);
-        firsts[n] = (item + 1) as u16;
-        put_children(queue, key, item);
-        return m;
+    // Stores the asked cell, as a leaf or with its children queued, and says how many leaves there are then. Item j becomes node j + 1, the
+    // root being node 0 and no item: so a first child's place is known before its distance is.
+    fn store(&mut self, s: State, distance: f32, split: bool) -> usize
+        requires { Ready s split (tables_in self.old) }
+        ensures same { SameTables self.old self.new }
+        ensures stored { (result ≡ leaves_of s split) × (tables_in self.new ≡ stored_of s split distance (tables_in self.old)) }
+    {
+        let n = s.nodes;
+        let m = s.leaves;
+        let key = s.asked;
+        self.keys[n] = key;
+        self.distances[n] = distance;
+        if split {
+            let item = 8 * (n - m);
+            self.firsts[n] = (item + 1) as u16;
+            put_children(self.queue, key, item);
+            return m;
+        }
+        self.firsts[n] = 0;
+        self.leaves[m] = key;
+        m + 1
     }
-    firsts[n] = 0;
-    leaves[m] = key;
-    m + 1
-}
 
-// An accepted call: what it stores, and its answer.
-fn accept(
-    s: State,
-    keys: &mut [u64],
-    distances: &mut [f32],
-    firsts: &mut [u16],
-    leaves: &mut [u64],
-    queue: &mut [u64],
-    distance: f32,
-    split: bool,
-) -> Answer
-    requires { Ready s split (tables_of keys.old distances.old firsts.old leaves.old queue.old) }
-    ensures { outcome (Ok result) (tables_of keys.new distances.new firsts.new leaves.new queue.new)
-        ≡ accept_of s split distance (tables_of keys.old distances.old firsts.old leaves.old queue.old) }
-{
-    let m = store(s, keys, distances, firsts, leaves, queue, distance, split);
-    advance(s, m, queue)
+    // An accepted call: what it stores, and its answer.
+    fn accept(&mut self, s: State, distance: f32, split: bool) -> Answer
+        requires { Ready s split (tables_in self.old) }
+        ensures same { SameTables self.old self.new }
+        ensures accepted { outcome (Ok result) (tables_in self.new) ≡ accept_of s split distance (tables_in self.old) }
+    {
+        let m = self.store(s, distance, split);
+        self.advance(s, m)
+    }
 }
 
 // Takes the distance of the asked cell, and says what to ask for next.
-pub fn distance(
-    s: State,
-    keys: &mut [u64],
-    distances: &mut [f32],
-    firsts: &mut [u16],
-    leaves: &mut [u64],
-    queue: &mut [u64],
-    distance: f32,
-) -> Result<Answer, Refusal>
-    ensures { outcome result (tables_of keys.new distances.new firsts.new leaves.new queue.new)
-        ≡ distance_of s distance (tables_of keys.old distances.old firsts.old leaves.old queue.old) }
+pub fn distance(s: State, tables: &mut Tables, distance: f32) -> Result<Answer, Refusal>
+    ensures same { SameTables tables.old tables.new }
+    ensures answered { outcome result (tables_in tables.new) ≡ distance_of s distance (tables_in tables.old) }
 {
-    refusal_of(s, distance, keys, distances, firsts, leaves, queue)?;
+    tables.refusal_of(s, distance)?;
     let split = is_split(s, distance);
-    Ok(accept(s, keys, distances, firsts, leaves, queue, distance, split))
+    Ok(tables.accept(s, distance, split))
 }

@@ -1,7 +1,7 @@
 -- `lengths_of` meets its contract. Assumes nothing.
 use mathlib.Core.Path.{refl}
 use Rattle.build.specs.Build.{lengths_of}
-use Rattle.build.proofs.lengths_of.Goals as goal
+use Rattle.build.proofs.Tables.lengths.Goals as goal
 
 pub returns : goal.returns
 unfolding lengths_of

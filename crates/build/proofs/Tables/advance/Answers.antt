@@ -2,7 +2,7 @@
 use Rattle.build.proofs.Walk.{called}
 use borrow.Author.Tests.{lt-ltb}
 use Rattle.build.specs.Build.{advance_of, moved_of}
-use Rattle.build.proofs.advance.Goals as goal
+use Rattle.build.proofs.Tables.advance.Goals as goal
 
 pub returns-then-n-leaves : goal.returns-then-n-leaves
 unfolding advance_of moved_of
