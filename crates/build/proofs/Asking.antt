@@ -4,8 +4,7 @@ use mathlib.Core.Path.{◌≡◌, subst}
 use lib.Ieee.{Float}
 use mathlib.Core.Bool.{true}
 use Rattle.morton.specs.declared.Extent.{Extent}
-use Rattle.morton.specs.declared.SizeAnswer.TheVariants as size
-use Rattle.morton.specs.declared.CentreAnswer.TheVariants as centre
+use Rattle.std.specs.Prelude.{Ok}
 use Rattle.morton.specs.Answers.{OnAxis, HalfSizeSays, CentreSays, ExtentSays}
 use Rattle.morton.specs.Exact.{Exactly}
 use Rattle.morton.specs.Field.{coord}
@@ -40,6 +39,6 @@ centre_means key a =
 
 -- a request carries what `centre` and `half_size` answer
 pub request_means : (key : ℕ) → is_cell key ≡ true
-    → CentreSays key (centre.Is (record { x = (request_of key).x; y = (request_of key).y; z = (request_of key).z })) × HalfSizeSays key (size.Is (request_of key).half)
+    → CentreSays key (Ok (record { x = (request_of key).x; y = (request_of key).y; z = (request_of key).z })) × HalfSizeSays key (Ok (request_of key).half)
 unfolding request_of
 request_means key e = ((e, (centre_means key 0, centre_means key 1, centre_means key 2)), (e, half_means key))

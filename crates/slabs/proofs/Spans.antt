@@ -10,7 +10,7 @@ use lib.Ieee.{Float}
 use lib.ListN.{get_or}
 use lib.Pow.{pow_mono, shr_lt}
 use Rattle.morton.specs.Answers.{CentreSays}
-use Rattle.morton.specs.declared.CentreAnswer.TheVariants as centre
+use Rattle.std.specs.Prelude.{Ok}
 use Rattle.morton.specs.declared.Vec3.{Vec3}
 use Rattle.morton.specs.Exact.{Exactly}
 use Rattle.morton.specs.Field.{bit, coord}
@@ -29,7 +29,7 @@ use Rattle.slabs.proofs.Order.{under_pos, slab_order, slab_lt, shifted_down}
 -- ---- a node's own
 
 -- its centre is as high as `centre` answers
-pub centre_height : (k : ℕ) (p : Vec3) → CentreSays k (centre.Is p) → Exactly p.z (height_over k) (height_under k)
+pub centre_height : (k : ℕ) (p : Vec3) → CentreSays k (Ok p) → Exactly p.z (height_over k) (height_under k)
 centre_height k p says = says.1.2
 
 -- slab n of 2^s goes from n / 2^s up to (n + 1) / 2^s, and a node's has its centre
