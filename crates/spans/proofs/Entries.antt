@@ -11,21 +11,10 @@ use Rattle.spans.proofs.HowMany.{same}
 use Rattle.spans.proofs.Raising.{raised_small}
 use Rattle.spans.proofs.Memory.{own_is}
 
-pub raised_none : (places : List ℕ) (at reach : ℕ) (first last : List ℕ) → AllRaised places at 0 reach first last first last
-raised_none places at reach first last = record {
-  first_long = refl;
-  last_long = refl;
-  each = λ p. inr ((λ e. omega (arith, e.o_inside)), refl);
-}
-
 module _ (places : List ℕ) (at n reach : ℕ) (first₀ last₀ first last : List ℕ) (A : AllRaised places at n reach first₀ last₀ first last) where
-  pub words_small : (nodes : ℕ) → Ready nodes first₀ last₀ → Small reach → (p : ℕ) → p < nodes → Small (get_or (first ++ last) p 0)
+  words_small : (nodes : ℕ) → Ready nodes first₀ last₀ → Small reach → (p : ℕ) → p < nodes → Small (get_or (first ++ last) p 0)
   words_small nodes R small p h =
       ⊎_elim (λ a. raised_small (R.words p h) small a.1) (λ b. subst Small (sym b.1) (R.words p h)) (A.each p)
-
-  -- nodes are not twice as many as leaves
-  pub place_room : (nodes : ℕ) → Ready nodes first₀ last₀ → (p : ℕ) → p < nodes → p < length first + length last
-  place_room nodes R p h = omega (arith, A.first_long, A.last_long, R.first_long, R.last_long)
 
   module _ (first' last' : List ℕ) (S : RaiseSays (get_or places (8 * at + n) 0) reach first last first' last') where
     abbrev place : ℕ
@@ -65,11 +54,6 @@ module _ (places : List ℕ) (at n reach : ℕ) (first₀ last₀ first last : L
       last_long = S.last_long ∙ A.last_long;
       each = λ p. ⊎_elim (λ e. subst Each (sym e) this_one) (another p) (same p place);
     }
-
-pub raised_all : (places : List ℕ) (at n reach : ℕ) (first₀ last₀ first last : List ℕ) → 8 ≤ n → n ≤ 8 → AllRaised places at n reach first₀ last₀ first last
-    → AllRaised places at 8 reach first₀ last₀ first last
-raised_all places at n reach first₀ last₀ first last g h A =
-    let e : n ≡ 8 = omega arith in subst (λ (n : ℕ). AllRaised places at n reach first₀ last₀ first last) e A
 
 -- ---- the slabs behind the words stay
 

@@ -187,9 +187,6 @@ prepared_at n s nodes e small first₀ last₀ first last last' a b f l S =
     prepared n s small first last last' (f ∙ ap (λ (m : ℕ). replicate m 0) (a ∙ ap leaves_of e)) (l ∙ ap (λ (m : ℕ). replicate m 0) (b ∙ ap leaves_of e))
     (subst (λ (nodes : ℕ). SlabsPut n s nodes last last') e S)
 
-pub ready_at : (n : Nodes) (s nodes : ℕ) (first last : List ℕ) → nodes ≡ nodes_in n → Prepared n s first last → Ready nodes first last
-ready_at n s nodes first last e P = subst (λ (m : ℕ). Ready m first last) (sym e) P.ready
-
 module _ (n : Nodes) (s nodes : ℕ) (e : nodes ≡ nodes_in n) (small : s ≤ limit) (first₀ last₀ first last words zeros : List ℕ) (r : ℕ) (P : Prepared n s first₀ last₀)
     (W₀ : Widens nodes (places_of n (spots_of n)) first₀ last₀ first last) (G₀ : Gathered n.firsts nodes (first ++ last) first words r)
     (zeros-are : zeros ≡ replicate (length (mid_of r (length words - r) words)) 0) where
@@ -208,9 +205,6 @@ module _ (n : Nodes) (s nodes : ℕ) (e : nodes ≡ nodes_in n) (small : s ≤ l
 
   S : Spanned (nodes_in n) (slab_of_place n s) (places_of n (spots_of n)) first last
   S = W.spans (slab_of_place n s) [] 0 refl P.spans
-
-  pub same_long : length kept ≡ length last
-  same_long = long ∙ G.as_long ∙ W.ready.first_long ∙ sym W.ready.last_long
 
   pub small_words : AllSmall kept
   small_words =

@@ -1,15 +1,14 @@
 -- The leaves' words are gathered, a place at a time. Assumes nothing.
 use Prim.Native.Nat.{ℕ, ◌+◌, ◌≤◌, ◌<◌, min}
-use mathlib.Core.Path.{◌≡◌, refl, sym, ◌∙◌, ap, subst}
+use mathlib.Core.Path.{◌≡◌, refl, sym, ◌∙◌, subst}
 use mathlib.Core.List.{List, ◌++◌}
-use mathlib.Core.Logic.{inl, inr, ⊎_elim}
+use mathlib.Core.Logic.{⊎_elim}
 use native.Mathlib.Omega.{arith}
-use lib.ListN.{length, get_or, set, length-set}
-use lib.Seq.{get_or-set_same, get_or-set_other}
+use lib.ListN.{length, get_or}
 use Rattle.tree.proofs.Lists.{order}
 use Rattle.spans.specs.Least.{how_many}
 use Rattle.spans.specs.Trusted.{leaves_of, childless, number_of, LeafAt}
-use Rattle.spans.specs.Steps.{Takes, Gathered}
+use Rattle.spans.specs.Steps.{Takes}
 use Rattle.spans.proofs.HowMany.{same, at_most}
 use Rattle.spans.proofs.Numbers.{number_leaf, number_other, number_below}
 use Rattle.spans.proofs.Memory.{words_stay}
@@ -28,22 +27,6 @@ leaf_place {firsts} {nodes} {p} {q} a b =
 pub none_past : {firsts : List ℕ} {nodes r p i : ℕ} → r ≡ min (number_of firsts nodes) (leaves_of nodes) → r ≤ i → LeafAt firsts nodes p i → ⊥
 none_past {firsts} {nodes} {r} {p} e h a = omega (arith, number_below firsts p nodes a.inside a.alone, a.number, a.few)
 
--- ---- one word taken over
-
-module _ (first : List ℕ) (number word child : ℕ) where
-  module _ (l : number < length first) where
-    abbrev first' : List ℕ
-    first' = set first number word
-
-    pub takes_leaf : child ≡ 0 → Takes first number word child first' (number + 1)
-    takes_leaf e = (length-set first number word, λ j n. get_or-set_other first number j word 0 n, λ h. get_or-set_same first number word 0 l, inl (e, l, refl))
-
-    pub takes_other : (child ≡ 0 → ⊥) → Takes first number word child first' number
-    takes_other n = (length-set first number word, λ j n. get_or-set_other first number j word 0 n, λ h. get_or-set_same first number word 0 l, inr (λ h. n h.0, refl))
-
-  pub takes_none : length first ≤ number → Takes first number word child first number
-  takes_none h = (refl, λ j n. refl, λ l. absurd (omega arith), inr (λ l. omega (arith, l.1), refl))
-
 -- ---- the pass
 
 -- what is gathered of the places below p; those from p on are as they were
@@ -59,10 +42,6 @@ unfolding how_many
 gathered_none fs nodes first last e = record { below = omega arith; as_long = e; count = omega arith; each = λ i h. absurd (omega arith); ahead = λ j h. refl }
 
 module _ (fs : List ℕ) (nodes : ℕ) (memory last first : List ℕ) (number p : ℕ) (G : GatheredTo fs nodes memory last first number p) where
-  -- nodes are not twice as many as leaves
-  pub word_inside : p < nodes → length last ≡ leaves_of nodes → p < length first + length last
-  word_inside h e = omega (arith, G.as_long)
-
   module _ (h : p < nodes) (word child : ℕ) (w : word ≡ get_or (first ++ last) p 0) (c : child ≡ get_or fs p 0) (first' : List ℕ) (r : ℕ) (T : Takes first number word child first' r) where
     count_more : r ≡ min (number_of fs (p + 1)) (leaves_of nodes)
     count_more =
@@ -101,8 +80,3 @@ module _ (fs : List ℕ) (nodes : ℕ) (memory last first : List ℕ) (number p 
           (same i number);
       ahead = λ j l. words_stay first first' last j T.0 (T.1 j (omega (arith, G.count, at_most (childless fs) p))) ∙ G.ahead j (omega arith);
     }
-
-  pub gathered_all : nodes ≤ p → (first₀ : List ℕ) → length first₀ ≡ leaves_of nodes → Gathered fs nodes memory first₀ first number
-  gathered_all h first₀ e =
-      let at : p ≡ nodes = omega (arith, G.below) in
-      record { as_long = G.as_long ∙ sym e; count = G.count ∙ ap (λ (p : ℕ). min (number_of fs p) (leaves_of nodes)) at; each = G.each }

@@ -10,6 +10,4 @@ pub mod Spanning
 pub mod Places
 pub mod Going
 pub mod Gathering
-pub mod Unpacking
 pub mod Finishing
-pub mod Standing

@@ -154,8 +154,3 @@ widens_more nodes at places first₀ last₀ first last first' last' h A B =
     subst (λ (xs : List ℕ). Widens nodes xs first₀ last₀ first' last') (sym (ap (λ (n : ℕ). take n places) e ∙ take-add (8 * at) 8 places))
     (widens_then nodes (take (8 * at) places) at (take 8 (drop (8 * at) places)) first₀ last₀ first last first' last'
     (omega (arith, length-take (8 * at) places)) A B)
-
-pub widens_all : (nodes at cells : ℕ) (places first₀ last₀ first last : List ℕ) → cells ≤ at → at ≤ cells → Widens nodes (take (8 * at) places) first₀ last₀ first last
-    → Widens nodes (take (8 * cells) places) first₀ last₀ first last
-widens_all nodes at cells places first₀ last₀ first last h l A =
-    let e : at ≡ cells = omega arith in subst (λ (n : ℕ). Widens nodes (take (8 * n) places) first₀ last₀ first last) e A

@@ -24,10 +24,6 @@ pub record Raised (a b r : ℕ) : Type 0 where
 abbrev pub own : ℕ → List ℕ → ℕ → ℕ
 own nodes last p = get_or last (nodes - length last + (p + 3) / 4) 0
 
--- Where the next four begin, after those at p.
-abbrev pub next_four : ℕ → ℕ
-next_four p = 4 * ((p + 3) / 4) + 1
-
 -- The slabs are taken down behind the words; nothing else is written.
 pub record SlabsPut (n : Nodes) (s nodes : ℕ) (last last' : List ℕ) : Type 0 where
   pub as_long : length last' ≡ length last

@@ -1,5 +1,7 @@
 -- From which slab to which slab each leaf is needed, on any tables at all: no tree need be sound. Assumes nothing.
-use Rattle.std.specs.Prelude.{ℕ, ◌+◌, ◌-◌, ◌*◌, ◌/◌, ◌≤◌, ◌<◌, min, ◌≡◌, Bool, true, false, ◌⊎◌, List, eqb, length, get_or}
+use Rattle.std.specs.Prelude.{ℕ, ◌+◌, ◌-◌, ◌*◌, ◌/◌, ◌≤◌, ◌<◌, min, ◌≡◌, Bool, ◌⊎◌, List, eqb, length, get_or, Result, Ok, Err}
+use Rattle.refusals.specs.declared.Refusal.{Refusal}
+use Rattle.refusals.specs.declared.Refusal.TheVariants.{AboveFifteen, ReportShort}
 use Rattle.morton.specs.Level.{limit}
 use Rattle.tree.specs.Down.{Nodes}
 use Rattle.vertices.specs.Walk.{spots_of}
@@ -87,6 +89,13 @@ pub record SpansWritten (n : Nodes) (s : ℕ) (first last first' last' : List �
   pub first_is : first' ≡ written first 0 firsts
   pub last_is : last' ≡ written last 0 lasts
 
-abbrev pub SpansSays : Nodes → ℕ → List ℕ → List ℕ → List ℕ → List ℕ → Bool → Type 0
-SpansSays n s first last first' last' true = SpansFit n s first last × SpansWritten n s first last first' last'
-SpansSays n s first last first' last' false = (SpansFit n s first last → ⊥) × (first' ≡ first) × (last' ≡ last)
+-- Why there are none: the exponent is above the limit; else a table has no place for each leaf.
+abbrev pub SpansRefused : Nodes → ℕ → List ℕ → List ℕ → Refusal → Type 0
+SpansRefused n s first last e =
+    ((e ≡ AboveFifteen) × (limit < s))
+    ⊎ ((e ≡ ReportShort) × (s ≤ limit) × ((length first < leaves_of (nodes_in n)) ⊎ (length last < leaves_of (nodes_in n))))
+
+-- The spans are written; or both tables stay, and it is said why.
+abbrev pub SpansSays : Nodes → ℕ → List ℕ → List ℕ → List ℕ → List ℕ → Result (Unit {0}) Refusal → Type 0
+SpansSays n s first last first' last' (Ok _) = SpansFit n s first last × SpansWritten n s first last first' last'
+SpansSays n s first last first' last' (Err e) = SpansRefused n s first last e × (first' ≡ first) × (last' ≡ last)

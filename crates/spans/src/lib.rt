@@ -6,16 +6,15 @@ ghost use Rattle.tree.specs.Down.{nodes_of};
 ghost use Rattle.vertices.specs.Walk.{spots_of};
 ghost use Rattle.vertices.specs.Cells.{places_of};
 ghost use Rattle.spans.specs.Trusted.{nodes_in, leaves_of, four_of, TrustedSpans, SpansSays};
-ghost use Rattle.spans.specs.Steps.{Small, Raised, next_four, own, SlabsPut, SmallSlabs, Ready, Reach, RaiseSays, AllRaised, Inside, AllSmall, Widens, NextFrom, Prepared, Takes, Gathered, AllUnpacked};
+ghost use Rattle.spans.specs.Steps.{Small, Raised, own, SlabsPut, SmallSlabs, Ready, Reach, RaiseSays, AllRaised, Inside, AllSmall, Widens, NextFrom, Prepared, Takes, Gathered, AllUnpacked};
+
+use refusals::Refusal;
 
 // No sound tree has more than 65,537 nodes, so no more are looked at.
 fn nodes_in(length: usize) -> usize
     ensures { result ≡ min length 65537 }
 {
-    if length > 65537 {
-        return 65537;
-    }
-    length
+    length.min(65537)
 }
 
 // How many leaves a sound tree of so many nodes has.
@@ -23,21 +22,7 @@ pub fn leaves_in(length: usize) -> usize
     ensures { result ≡ leaves_of (min length 65537) }
 {
     let nodes = nodes_in(length);
-    if nodes == 0 {
-        return 0;
-    }
-    nodes - (nodes - 1) / 8
-}
-
-// Writes 0 to each place of a table.
-pub fn clear(table: &mut [u32])
-    ensures { table.new ≡ replicate (length table.old) 0 }
-{
-    let mut i: usize = 0;
-    while i < table.len() {
-        table[i] = 0;
-        i += 1;
-    }
+    nodes - nodes.saturating_sub(1) / 8
 }
 
 // ---- the nodes' slabs
@@ -46,13 +31,14 @@ pub fn clear(table: &mut [u32])
 // many: in its lower half the highest slab so far, in its upper half 32,767 less the lowest, and 0 before any. After these words come the nodes' slabs, one for each
 // four siblings, which lie equally high.
 
-// Where the next four begin, after those at a place.
-fn next_four(place: usize) -> usize
-    requires { place < 65537 }
-    ensures { result ≡ next_four place }
-{
-    4 * ((place + 3) / 4) + 1
-}
+// The highest slab of all, since no more than 2^15 are cut.
+const HIGHEST: u32 = 32767;
+
+// What a word's upper half is multiplied by.
+const UPPER: u32 = 65536;
+
+// The top bit of each half of a word.
+const TOP_BITS: u32 = 2147516416;
 
 // Takes down the slab of each four siblings.
 fn put_slabs(keys: &[u64], firsts: &[u16], nodes: usize, exponent: u32, last: &mut [u32])
@@ -60,10 +46,11 @@ fn put_slabs(keys: &[u64], firsts: &[u16], nodes: usize, exponent: u32, last: &m
     ensures { SlabsPut (nodes_of keys.now firsts.now) exponent nodes last.old last.new }
 {
     let over = nodes - last.len();
-    let mut place: usize = 0;
-    while place < nodes {
+    if nodes > 0 {
+        last[over] = slabs::slab_at(keys[0], exponent);
+    }
+    for place in (1..nodes).step_by(4) {
         last[over + (place + 3) / 4] = slabs::slab_at(keys[place], exponent);
-        place = next_four(place);
     }
 }
 
@@ -76,16 +63,14 @@ fn reach_of_four(nodes: usize, last: &[u32], places: &[usize], from: usize) -> u
     ensures { Reach (own nodes last.now) places.now from 4 result }
 {
     let over = nodes - last.len();
-    let mut low: u32 = 32767;
+    let mut low = HIGHEST;
     let mut high: u32 = 0;
-    let mut o: usize = 0;
-    while o < 4 {
+    for o in 0..4 {
         let slab = last[over + (places[from + o] + 3) / 4];
-        low = slabs::lesser(low, slab);
-        high = slabs::greater(high, slab);
-        o += 1;
+        low = low.min(slab);
+        high = high.max(slab);
     }
-    65536 * (32767 - low) + high
+    UPPER * (HIGHEST - low) + high
 }
 
 // The greater of each half by itself. Without a comparison, of which the compiler would make branches that can't be foreseen: the top bit of a half of `over` tells
@@ -94,8 +79,8 @@ fn raised(a: u32, b: u32) -> u32
     requires { Small a × Small b }
     ensures { Raised a b result }
 {
-    let over = a + 2147516416 - b;
-    let sign = over & 2147516416;
+    let over = a + TOP_BITS - b;
+    let sign = over & TOP_BITS;
     b + (over & (sign - sign / 32768))
 }
 
@@ -137,10 +122,8 @@ fn raise_all(
     requires at_in_bounds { (8 * at + 8 ≤ length places.now) × Inside nodes places.now }
     ensures { AllRaised places.now at 8 reach first.old last.old first.new last.new }
 {
-    let mut o: usize = 0;
-    while o < 8 {
+    for o in 0..8 {
         raise(first, last, places[8 * at + o], reach);
-        o += 1;
     }
 }
 
@@ -150,12 +133,9 @@ fn widen(nodes: usize, first: &mut [u32], last: &mut [u32], places: &[usize])
     ensures { Widens nodes (take (8 * (length places.now / 8)) places.now)
         first.old last.old first.new last.new }
 {
-    let cells = places.len() / 8;
-    let mut at: usize = 0;
-    while at < cells {
+    for at in 0..places.len() / 8 {
         let reach = reach_of_cell(nodes, last, places, at);
         raise_all(first, last, nodes, places, at, reach);
-        at += 1;
     }
 }
 
@@ -227,32 +207,28 @@ fn gather(firsts: &[u16], nodes: usize, first: &mut [u32], last: &[u32]) -> usiz
     ensures { Gathered firsts.now nodes (first.old ++ last.now) first.old first.new result }
 {
     let mut number: usize = 0;
-    let mut place: usize = 0;
-    while place < nodes {
+    for place in 0..nodes {
         let word = word_at(first, last, place);
         number = take_over(first, number, word, tree::first_at(firsts, place));
-        place += 1;
     }
     number
 }
 
 // First and last slab of each leaf, from the words.
 fn unpack(first: &mut [u32], last: &mut [u32])
-    requires { (length first.old ≡ length last.old) × AllSmall first.old }
+    requires as_long { length first.old ≡ length last.old }
+    requires small_words { AllSmall first.old }
     ensures { AllUnpacked first.old last.old first.new last.new }
 {
-    let mut i: usize = 0;
-    while i < first.len() {
-        let a = 32767 - first[i] / 65536;
-        let b = first[i] % 65536;
+    for i in 0..first.len() {
+        let a = HIGHEST - first[i] / UPPER;
+        let b = first[i] % UPPER;
         if b < a {
             first[i] = 1;
             last[i] = 0;
-            i += 1;
         } else {
             first[i] = a;
             last[i] = b;
-            i += 1;
         }
     }
 }
@@ -272,8 +248,8 @@ fn prepare(
     requires first_len { (length first.old ≡ leaves_of nodes) × (length last.old ≡ leaves_of nodes) }
     ensures { Prepared (nodes_of keys.now firsts.now) exponent first.new last.new }
 {
-    clear(first);
-    clear(last);
+    first.fill(0);
+    last.fill(0);
     put_slabs(keys, firsts, nodes, exponent, last);
 }
 
@@ -293,30 +269,27 @@ fn spans_in(
     prepare(keys, firsts, nodes, exponent, first, last);
     go_over(keys, firsts, nodes, first, last);
     let leaves = gather(firsts, nodes, first, last);
-    clear(&mut first[leaves..]);
+    first[leaves..].fill(0);
     unpack(first, last);
 }
 
-// First and last slab of each leaf, and true; or false and nothing, where a table has no place for each or the exponent is above 15.
+// First and last slab of each leaf. Refused, with both tables as they were, where the exponent is above 15, or else where a table has no place for each leaf.
 pub fn spans(
     keys: &[u64],
     firsts: &[u16],
     exponent: u32,
     first: &mut [u32],
     last: &mut [u32],
-) -> bool
+) -> Result<(), Refusal>
     ensures { SpansSays (nodes_of keys.now firsts.now) exponent
         first.old last.old first.new last.new result }
 {
-    let leaves = leaves_in(keys.len());
     if exponent > morton::LIMIT {
-        return false;
+        return Err(Refusal::AboveFifteen);
     }
-    if first.len() < leaves {
-        return false;
-    }
-    if last.len() < leaves {
-        return false;
+    let leaves = leaves_in(keys.len());
+    if first.len() < leaves || last.len() < leaves {
+        return Err(Refusal::ReportShort);
     }
     spans_in(
         keys,
@@ -326,5 +299,5 @@ pub fn spans(
         &mut first[..leaves],
         &mut last[..leaves],
     );
-    true
+    Ok(())
 }

@@ -1,11 +1,12 @@
--- What the loop of `unpack` keeps, and how it ends.
-use Prim.Native.Nat.{◌-◌, ◌≤◌}
-use lib.ListN.{length}
-use Rattle.spans.proofs.Unpacking.{UnpackedTo}
+-- What the loop of `unpack` keeps.
+use Prim.Native.Nat.{ℕ, ◌≤◌, ◌<◌}
+use mathlib.Core.Path.{◌≡◌}
+use lib.ListN.{get_or}
+use Rattle.spans.specs.Steps.{Unpacked}
 use Rattle.spans.proofs.unpack.Given as goal
 
 abbrev pub invariant-loop-i : goal.invariant-loop-i
-invariant-loop-i l = (l.i ≤ length l.initial.first) × UnpackedTo l.i l.initial.first l.initial.last l.first l.last
-
-abbrev pub decreases-loop-i : goal.decreases-loop-i
-decreases-loop-i l = length l.initial.first - l.i
+invariant-loop-i l = record {
+  unpacked : (k : ℕ) → k < l.i → Unpacked (get_or l.initial.first k 0) (get_or l.first k 0) (get_or l.last k 0);
+  rest : (k : ℕ) → l.i ≤ k → get_or l.first k 0 ≡ get_or l.initial.first k 0;
+}
