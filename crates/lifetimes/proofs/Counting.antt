@@ -1,12 +1,12 @@
 -- Counting by differences: what each step keeps, and why the sums are the counts. Assumes nothing.
-use Rattle.std.proofs.Common.{◌≡◌, ℕ, zero, suc, ◌+◌, ◌%◌, ◌^◌, ◌<◌, ◌≤◌, max, Bool, true, false, cond, ◌&&◌, eqb, ltb, leb, List, ◌++◌, length, get_or, drop, set, replicate, sym, refl, ap, ◌∙◌, subst, ap₂, ⊎_elim, append-nil, not-suc-le-zero, le_antisymm, add-one, arith, length-set, drop_of_length-le, get_or-set_other, get_or-set_same, ext_get_or, pow_pos, le-ltb, lt-ltb, eq-eqb, ne_eqb, le-leb}
+use Rattle.std.proofs.Common.{◌≡◌, ℕ, zero, suc, ◌+◌, ◌-◌, ◌%◌, ◌^◌, ◌<◌, ◌≤◌, max, Bool, true, false, cond, ◌&&◌, eqb, ltb, leb, List, length, get_or, set, replicate, sym, refl, ap, ◌∙◌, subst, ap₂, ⊎_elim, not-suc-le-zero, le_antisymm, add-one, arith, length-set, get_or-set_other, get_or-set_same, ext_get_or, pow_pos, le-ltb, lt-ltb, eq-eqb, ne_eqb, le-leb}
 use borrow.Author.Tests.{lt-leb}
-use lib.ListN.{length-replicate, get_or-replicate}
+use lib.ListN.{get_or-replicate}
 use Rattle.tree.specs.Tree.{In}
 use Rattle.tree.specs.Down.{Nodes}
 use Rattle.tree.proofs.Lists.{order}
 use Rattle.lifetimes.specs.Needed.{GreatestOf, how_many, needed_at, count_at, Counts}
-use Rattle.lifetimes.specs.Steps.{Differs, starts_at, ends_at, SumsUp, most_in, Counted, SpansLeft, ReportLeft}
+use Rattle.lifetimes.specs.Steps.{Differs, starts_at, ends_at, most_in, Counted, SpansLeft, ReportLeft}
 use Rattle.lifetimes.proofs.HowMany.{same, passed, failed, at_most, alike}
 
 -- ---- tests
@@ -28,21 +28,6 @@ none : (t : Bool) → t ≡ false → cond {A = ℕ} t 1 0 ≡ 0
 none t p = simp p
 
 -- ---- a table filled
-
-pub fill_all : (l₀ l : List ℕ) (x i : ℕ) → length l₀ ≤ i → i ≤ length l₀ → l ≡ replicate i x ++ drop i l₀ → l ≡ replicate (length l₀) x
-fill_all l₀ l x i g h e =
-    e ∙ ap (λ (t : List ℕ). replicate i x ++ t) (drop_of_length-le l₀ g) ∙ append-nil (replicate i x) ∙ ap (λ (n : ℕ). replicate n x) (le_antisymm h g)
-
-pub filled_long : (l₀ l : List ℕ) (x : ℕ) → l ≡ replicate (length l₀) x → length l ≡ length l₀
-filled_long l₀ l x e = ap length e ∙ length-replicate (length l₀) x
-
--- What it is, its length being known.
-pub filled_as : (l₀ l : List ℕ) (m x : ℕ) → l ≡ replicate (length l₀) x → length l₀ ≡ m → l ≡ replicate m x
-filled_as l₀ l m x e f = e ∙ ap (λ (n : ℕ). replicate n x) f
-
--- What a filled table is, said of itself.
-pub filled : (l₀ l : List ℕ) (x : ℕ) → l ≡ replicate (length l₀) x → l ≡ replicate (length l) x
-filled l₀ l x e = e ∙ ap (λ (n : ℕ). replicate n x) (sym (filled_long l₀ l x e))
 
 -- ---- differences
 
@@ -89,7 +74,7 @@ module _ (firsts lasts : List ℕ) (i : ℕ) where
       (same slab a)
 
   -- the store after the last
-  down : (l : List ℕ) (y : ℕ) → AllHold firsts lasts (i + 1) i l → a ≤ b → b + 1 < length l → (y + 1) % 2 ^ 32 ≡ get_or l (b + 1) 0
+  down : (l : List ℕ) (y : ℕ) → AllHold firsts lasts (i + 1) i l → a ≤ b → b + 1 < length l → y ≡ (get_or l (b + 1) 0 + (2 ^ 32 - 1)) % 2 ^ 32
       → AllHold firsts lasts (i + 1) (i + 1) (set l (b + 1) y)
   down l y d h r e slab g =
       ⊎_elim
@@ -122,7 +107,7 @@ module _ (firsts lasts : List ℕ) (i : ℕ) where
     pub differ_both : (x y : ℕ) → get_or firsts i 0 ≤ get_or lasts i 0
         → x ≡ (get_or l (get_or firsts i 0) 0 + 1) % 2 ^ 32
         → get_or lasts i 0 + 1 < length (set l (get_or firsts i 0) x)
-        → (y + 1) % 2 ^ 32 ≡ get_or (set l (get_or firsts i 0) x) (get_or lasts i 0 + 1) 0
+        → y ≡ (get_or (set l (get_or firsts i 0) x) (get_or lasts i 0 + 1) 0 + (2 ^ 32 - 1)) % 2 ^ 32
         → Differs firsts lasts (i + 1) l₀ (set (set l (get_or firsts i 0) x) (get_or lasts i 0 + 1) y)
     differ_both x y h e w f =
         let n : length (set (set l a x) (b + 1) y) ≡ length l₀ = length-set (set l a x) (b + 1) y ∙ length-set l a x ∙ d.as_long in
@@ -130,9 +115,6 @@ module _ (firsts lasts : List ℕ) (i : ℕ) where
           as_long = n;
           each = λ slab g. down (set l a x) y (up l x all_hold h (omega (arith, length-set l a x)) e) h w f slab (omega (arith, n));
         }
-
-    pub differ_all : i ≤ length firsts → length firsts ≤ i → Differs firsts lasts (length firsts) l₀ l
-    differ_all h g = subst (λ (m : ℕ). Differs firsts lasts m l₀ l) (le_antisymm h g) d
 
 pub differ_start : (firsts lasts l : List ℕ) → l ≡ replicate (length l) 0 → Differs firsts lasts 0 l l
 unfolding how_many
@@ -294,9 +276,6 @@ module _ (firsts lasts l₀ l : List ℕ) (here slab : ℕ) (s : Summed firsts l
         left = λ i h. get_or-set_other l slab i next 0 (omega arith) ∙ s.left i (omega arith);
       }
 
-  pub sum_all : length l ≤ slab → SumsUp firsts lasts l₀ l
-  sum_all g = record { as_long = s.as_long; each = λ i h. s.done i (omega (arith, s.as_long)) }
-
 -- ---- the greatest
 
 module _ (xs : List ℕ) where
@@ -334,15 +313,6 @@ module _ (xs : List ℕ) where
       there w = record { place = w.0; inside = w.1; here = w.2 }
 
 -- ---- the four steps together
-
--- What the differences are, said of the table that holds them.
-pub settled : {firsts lasts l₀ l : List ℕ} {m : ℕ} → Differs firsts lasts m l₀ l → Differs firsts lasts m l l
-settled d = record { as_long = refl; each = λ slab g. d.each slab (omega (arith, d.as_long)) }
-
--- Only the length of what stood there before matters.
-pub counted_from : {firsts lasts l₀ l₁ l₂ : List ℕ} {r : ℕ} → length l₁ ≡ length l₀ → SumsUp firsts lasts l₁ l₂ → r ≡ most_in l₂ (length l₂)
-    → Counted firsts lasts l₀ l₂ r
-counted_from e c g = record { sums = record { as_long = c.as_long ∙ e; each = λ slab h. c.each slab (omega (arith, e)) }; greatest = g }
 
 -- The greatest is one of the counts, as there is a slab.
 pub counted_counts : {firsts lasts counts counts' : List ℕ} {r s : ℕ} → length counts ≡ 2 ^ s → Counted firsts lasts counts counts' r

@@ -1,8 +1,8 @@
 -- Least and greatest so far, and what a cell adds to the spans of its leaves. Assumes nothing.
-use Rattle.std.proofs.Common.{◌≡◌, ℕ, ◌+◌, ◌-◌, ◌*◌, ◌%◌, ◌<◌, ◌≤◌, min, max, ◌⊎◌, List, length, get_or, set, sym, refl, ap, ◌∙◌, subst, inl, inr, ⊎_elim, arith, length-set, get_or-set_other, get_or-set_same}
+use Rattle.std.proofs.Common.{◌≡◌, ℕ, ◌+◌, ◌*◌, ◌<◌, ◌≤◌, min, max, ◌⊎◌, List, length, get_or, set, sym, refl, ap, ◌∙◌, subst, inl, inr, ⊎_elim, arith, length-set, get_or-set_other, get_or-set_same}
 use Rattle.tree.proofs.Lists.{order}
 use Rattle.lifetimes.specs.Trusted.{leaves_of, LeafAt}
-use Rattle.lifetimes.specs.Steps.{upper, lower, Finds, Edge, NoMore, NoLess, Meets, MeetingSays, Among, Pulled, PullSays, Widened}
+use Rattle.lifetimes.specs.Steps.{upper, Finds, Edge, NoMore, NoLess, Meets, MeetingSays, Among, Pulled, PullSays, Widened}
 use Rattle.lifetimes.proofs.HowMany.{same}
 use Rattle.lifetimes.proofs.Numbers.{leaf_one}
 
@@ -51,16 +51,6 @@ module _ {so : ℕ → ℕ → Type 0} {start : ℕ} where
 -- ---- the leaves of a cell
 
 module _ (fs : List ℕ) (nodes : ℕ) (first places : List ℕ) (at : ℕ) where
-  pub meeting_none : (numbers : List ℕ) → length numbers ≡ 8 → MeetingSays fs nodes first places at 0 numbers 65535 0
-  meeting_none numbers e = record {
-    eight = e;
-    each = λ o h. absurd (omega arith);
-    lowest = record { all = λ y m. absurd (omega (arith, m.o_inside)); one = inl refl };
-    highest = record { all = λ y m. absurd (omega (arith, m.o_inside)); one = inl refl };
-    low_small = omega arith;
-    high_small = omega arith;
-  }
-
   module _ (n low high r : ℕ) (numbers : List ℕ) (h : n < 8) (M : MeetingSays fs nodes first places at n numbers low high)
       (found : Finds fs nodes (get_or places (8 * at + n) 0) r) where
     each_more : (o : ℕ) → o < n + 1 → Finds fs nodes (get_or places (8 * at + o) 0) (get_or (set numbers n r) o 0)
@@ -123,14 +113,7 @@ module _ (fs : List ℕ) (nodes : ℕ) (first places : List ℕ) (at : ℕ) wher
 
 -- ---- pulling
 
--- a lower half is exchanged, and the upper one stays
-pub halves : (a r : ℕ) → r < 65536 → (upper (a - a % 65536 + r) ≡ upper a) × (lower (a - a % 65536 + r) ≡ r)
-halves a r h = (omega arith, omega arith)
-
 module _ (numbers : List ℕ) (low high : ℕ) (first₀ last₀ : List ℕ) where
-  pub widened_none : Widened numbers 0 low high first₀ last₀ first₀ last₀
-  widened_none = record { first_long = refl; last_long = refl; each = λ i h. inr ((λ a. omega (arith, a.o_inside)), refl, refl) }
-
   module _ (n : ℕ) (first last first' last' : List ℕ) (W : Widened numbers n low high first₀ last₀ first last)
       (P : PullSays low high (get_or numbers n 0) first last first' last') where
     again : (i : ℕ) → Pulled low high (get_or first₀ i 0) (get_or last₀ i 0) (get_or first i 0) (get_or last i 0) → Pulled low high (get_or first i 0) (get_or last i 0) (get_or first' i 0) (get_or last' i 0)
@@ -185,36 +168,3 @@ module _ (numbers : List ℕ) (low high : ℕ) (first₀ last₀ : List ℕ) whe
       last_long = P.1 ∙ W.last_long;
       each = λ i h. ⊎_elim (hit i h) (miss i h) (same (get_or numbers n 0) i);
     }
-
-module _ (low high i : ℕ) (first last : List ℕ) where
-  pub pull_none : length first ≤ i → PullSays low high i first last first last
-  pull_none h = (refl, refl, (λ l. absurd (omega arith)), λ j n. (refl, refl))
-
-  pub pull_says : (x y : ℕ) → i < length first → length first ≡ length last → low ≤ 65535 → high ≤ 65535
-      → x ≡ min (get_or first i 0 % 65536) low → y ≡ max (get_or last i 0 % 65536) high
-      → PullSays low high i first last (set first i (get_or first i 0 - get_or first i 0 % 65536 + x)) (set last i (get_or last i 0 - get_or last i 0 % 65536 + y))
-  pull_says x y h e f g p q =
-      let a = halves (get_or first i 0) x (omega arith) in
-      let b = halves (get_or last i 0) y (omega arith) in
-      let at : get_or (set first i (get_or first i 0 - get_or first i 0 % 65536 + x)) i 0 ≡ get_or first i 0 - get_or first i 0 % 65536 + x = get_or-set_same first i _ 0 h in
-      let bt : get_or (set last i (get_or last i 0 - get_or last i 0 % 65536 + y)) i 0 ≡ get_or last i 0 - get_or last i 0 % 65536 + y = get_or-set_same last i _ 0 (omega arith) in (
-        length-set first i _,
-        length-set last i _,
-        (λ l. record {
-          first_upper = ap upper at ∙ a.0;
-          first_lower = ap lower at ∙ a.1 ∙ p;
-          last_upper = ap upper bt ∙ b.0;
-          last_lower = ap lower bt ∙ b.1 ∙ q;
-        }),
-        λ j n. (get_or-set_other first i j _ 0 n, get_or-set_other last i j _ 0 n),
-      )
-
-pub widened_all : (numbers : List ℕ) (n low high : ℕ) (first₀ last₀ first last : List ℕ) → 8 ≤ n → n ≤ 8 → Widened numbers n low high first₀ last₀ first last
-    → Widened numbers 8 low high first₀ last₀ first last
-widened_all numbers n low high first₀ last₀ first last h l W =
-    let e : n ≡ 8 = omega arith in subst (λ (n : ℕ). Widened numbers n low high first₀ last₀ first last) e W
-
-pub meeting_all : (fs : List ℕ) (nodes : ℕ) (first places : List ℕ) (at n : ℕ) (numbers : List ℕ) (low high : ℕ) → 8 ≤ n → n ≤ 8 → MeetingSays fs nodes first places at n numbers low high
-    → MeetingSays fs nodes first places at 8 numbers low high
-meeting_all fs nodes first places at n numbers low high h l M =
-    let e : n ≡ 8 = omega arith in subst (λ (n : ℕ). MeetingSays fs nodes first places at n numbers low high) e M

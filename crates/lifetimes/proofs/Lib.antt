@@ -4,9 +4,7 @@ pub mod Numbers
 pub mod Edges
 pub mod Spanning
 pub mod Going
-pub mod Unpacking
 pub mod Counting
-pub mod Standing
 pub mod Leaves
 pub mod Cells
 pub mod Joining

@@ -1,15 +1,13 @@
 -- The numbers and slabs of the leaves, as they are taken down. Assumes nothing.
-use Rattle.std.proofs.Common.{◌≡◌, ℕ, zero, suc, ◌+◌, ◌-◌, ◌*◌, ◌%◌, ◌^◌, ◌<◌, ◌≤◌, min, List, length, get_or, set, replicate, sym, refl, ap, ◌∙◌, subst, inl, inr, ⊎_elim, arith, length-set, get_or-set_other, get_or-set_same, pow_mono, eq-eqb, ne_eqb}
+use Rattle.std.proofs.Common.{◌≡◌, ℕ, zero, suc, ◌+◌, ◌-◌, ◌*◌, ◌^◌, ◌<◌, ◌≤◌, min, List, length, get_or, set, replicate, sym, refl, ap, ◌∙◌, subst, inl, inr, ⊎_elim, arith, length-set, get_or-set_other, get_or-set_same, pow_mono, eq-eqb, ne_eqb}
 use lib.ListN.{length-replicate, get_or-replicate}
-use lib.Seq.{set_out}
 use Rattle.morton.specs.Level.{limit}
-use Rattle.tree.specs.Down.{Nodes}
 use Rattle.tree.proofs.Lists.{order}
 use Rattle.slabs.specs.Heights.{slab_of, slab_at}
 use Rattle.slabs.proofs.Order.{slab_lt, at_within}
 use Rattle.lifetimes.specs.Needed.{how_many}
-use Rattle.lifetimes.specs.Trusted.{nodes_in, leaves_of, childless, number_of, LeafAt}
-use Rattle.lifetimes.specs.Steps.{upper, lower, slot_of, early, Numbering, PutLeaf, Finds, Prepared}
+use Rattle.lifetimes.specs.Trusted.{leaves_of, childless, number_of, LeafAt}
+use Rattle.lifetimes.specs.Steps.{upper, lower, slot_of, early, Numbering, PutLeaf}
 use Rattle.lifetimes.proofs.HowMany.{same, passed, failed}
 
 -- ---- counting leaves
@@ -44,24 +42,6 @@ leaf_one a b = sym a.number ∙ b.number
 -- there is a place for each leaf
 pub slot_inside : (nodes p : ℕ) → p < nodes → slot_of p < leaves_of nodes
 slot_inside nodes p h = omega arith
-
-module _ (fs : List ℕ) (nodes p x : ℕ) (inside : p < nodes) (alone : get_or fs p 0 ≡ 0) (n : Numbering fs nodes p x) where
-  pub number_enough : early p ≤ upper x
-  number_enough = omega (arith, n.stored)
-
-  pub number_found : (r : ℕ) → r ≡ upper x - early p → Finds fs nodes p r
-  number_found r e =
-      let is : r ≡ n.number = omega (arith, n.stored) in
-      ⊎_elim
-      (λ h. inl (record { inside = inside; alone = alone; number = sym h.1 ∙ sym is; few = omega (arith, h.0, h.1, is) }))
-      (λ h. inr (omega (arith, h.1, is), λ i l. omega (arith, h.0, l.number, l.few)))
-      n.right
-
-pub none_past : (fs : List ℕ) (nodes p r : ℕ) → nodes ≤ p → leaves_of nodes ≤ r → Finds fs nodes p r
-none_past fs nodes p r h g = inr (g, λ i l. omega (arith, l.inside))
-
-pub none_split : (fs : List ℕ) (nodes p r : ℕ) → (get_or fs p 0 ≡ 0 → ⊥) → leaves_of nodes ≤ r → Finds fs nodes p r
-none_split fs nodes p r h g = inr (g, λ i l. absurd (h l.alone))
 
 -- ---- the pass
 
@@ -109,9 +89,6 @@ module _ (fs ks : List ℕ) (nodes s p number : ℕ) (first last : List ℕ) (N 
 
   there : (i : ℕ) → (i ≡ slot_of p → ⊥) → get_or last' i 0 ≡ get_or last i 0
   there i n = get_or-set_other last (slot_of p) i put 0 n
-
-  pub number_small : nodes ≤ 65537 → number + early p < 65536
-  number_small f = omega (arith, N.number_is)
 
   slot_here : Numbering fs nodes p (get_or last' (slot_of p) 0)
   slot_here = record {
@@ -195,31 +172,8 @@ module _ (fs ks : List ℕ) (nodes s p number : ℕ) (first last : List ℕ) (N 
       no_first = λ i l. ⊎_elim (λ c. omega (arith, first_at_lem i l (sym c))) (λ n. omega (arith, first_else i n, N.no_first i l)) (same i number);
     }
 
-pub prepared : (n : Nodes) (s nodes p number : ℕ) (first last : List ℕ) → nodes ≡ nodes_in n → nodes ≤ p → NumberedTo n.firsts n.keys nodes s p number first last → Prepared n s first last
-prepared n s nodes p number first last e h N₀ =
-    record {
-      ready = record { first_long = N.first_long; last_long = N.last_long; numbered = λ q l z. N.slots q (omega arith) z };
-      spans = record {
-        owned = λ q i a. N.owned q i (omega (arith, a.inside)) a;
-        least = λ i l. record { all = λ y b. absurd (omega (arith, b.e_inside)); one = inl (N.no_first i l) };
-        greatest = λ i l. record { all = λ y b. absurd (omega (arith, b.e_inside)); one = inl (N.no_last i l) };
-      };
-    }
-  where
-    N : NumberedTo n.firsts n.keys (nodes_in n) s p number first last
-    N = subst (λ (nodes : ℕ). NumberedTo n.firsts n.keys nodes s p number first last) e N₀
-
 pub slab_small : (s k : ℕ) → s ≤ limit → slab_of s k < 2 ^ 15
 slab_small s k h = omega (arith, slab_lt s k, pow_mono {i = s} {j = 15} h)
-
--- ---- taking a leaf's slab down where there is no place for it
-
-module _ (first : List ℕ) (number slab : ℕ) where
-  pub put_at_end : number ≡ length first → PutLeaf first number slab first (number + 1)
-  put_at_end e = record { table = sym (set_out first number (65536 * slab + 65535) (omega arith)); next = omega arith }
-
-  pub put_past : (length first ≤ number) → (number ≡ length first → ⊥) → number ≤ length first + 1 → PutLeaf first number slab first number
-  put_past h n l = record { table = sym (set_out first number (65536 * slab + 65535) h); next = omega arith }
 
 -- ---- slabs at an exponent within the limit
 
@@ -229,10 +183,3 @@ module _ (s k r : ℕ) (h : s ≤ limit) (e : r ≡ slab_at s k) where
 
   pub slab_at_small : r < 2 ^ 15
   slab_at_small = omega (arith, slab_at_is, slab_small s k h)
-
--- 2^s, as it is worked out
-pub shifted : (s : ℕ) → s ≤ limit → 1 * 2 ^ s % 2 ^ 64 ≡ 2 ^ s
-shifted s h = omega (arith, pow_mono {i = s} {j = 15} h)
-
-pub enough : (s n : ℕ) → s ≤ limit → 1 * 2 ^ s % 2 ^ 64 ≤ n → 2 ^ s ≤ n
-enough s n h l = omega (arith, shifted s h)

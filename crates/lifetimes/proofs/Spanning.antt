@@ -230,11 +230,6 @@ widens_more fs nodes at places first₀ last₀ first last first' last' h A B =
     (widens_then fs nodes (take (8 * at) places) at (take 8 (drop (8 * at) places)) first₀ last₀ first last first' last'
     (omega (arith, length-take (8 * at) places)) A B)
 
-pub widens_all : (fs : List ℕ) (nodes at cells : ℕ) (places first₀ last₀ first last : List ℕ) → cells ≤ at → at ≤ cells → Widens fs nodes (take (8 * at) places) first₀ last₀ first last
-    → Widens fs nodes (take (8 * cells) places) first₀ last₀ first last
-widens_all fs nodes at cells places first₀ last₀ first last h l A =
-    let e : at ≡ cells = omega arith in subst (λ (n : ℕ). Widens fs nodes (take (8 * n) places) first₀ last₀ first last) e A
-
 -- ---- all of them
 
 module _ (n : Nodes) (s : ℕ) (small : s ≤ limit) (first last first' last' : List ℕ)
@@ -297,6 +292,3 @@ pub spans_done : (n : Nodes) (s nodes : ℕ) → nodes ≡ nodes_in n → s ≤ 
 spans_done n s nodes e small first last first' last' left right P W₀ U =
     let W = subst (λ (m : ℕ). Widens n.firsts m (places_of n (spots_of n)) first last first' last') e W₀ in
     spans_left n s small first' last' left right W.ready (W.spans (own_slab n s) [] 0 refl P.spans) U
-
-pub ready_of : (fs : List ℕ) (nodes m : ℕ) (first last : List ℕ) → nodes ≡ m → Ready fs m first last → Ready fs nodes first last
-ready_of fs nodes m first last e R = subst (λ (m : ℕ). Ready fs m first last) (sym e) R

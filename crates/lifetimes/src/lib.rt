@@ -1,6 +1,6 @@
 #![tactic(auto)]
 // From which slab to which slab each leaf of a tree is needed, over all its dual cells, and how many leaves are needed at each slab. Ours: the Rust frees nothing.
-ghost use Rattle.std.specs.Prelude.{◌≡◌, ◌+◌, ◌*◌, ◌^◌, ◌<◌, ◌≤◌, min, length, take, replicate, slice_index};
+ghost use Rattle.std.specs.Prelude.{◌≡◌, ◌+◌, ◌*◌, ◌^◌, ◌<◌, ◌≤◌, length, take, replicate, slice_index};
 ghost use Rattle.morton.specs.Level.{limit};
 ghost use Rattle.tree.specs.Tree.{tree_of, Decides};
 ghost use Rattle.tree.specs.Down.{nodes_of};
@@ -25,34 +25,10 @@ struct Meeting {
     high: u32,
 }
 
-// No sound tree has more than 65,537 nodes, so no more are looked at.
-fn nodes_in(length: usize) -> usize
-    ensures { result ≡ min length 65537 }
-{
-    if length > 65537 {
-        return 65537;
-    }
-    length
-}
-
 fn leaves_of(nodes: usize) -> usize
     ensures { result ≡ leaves_of nodes }
 {
-    if nodes == 0 {
-        return 0;
-    }
-    nodes - (nodes - 1) / 8
-}
-
-// Writes a number to each place of a table.
-fn fill(table: &mut [u32], x: u32)
-    ensures { table.new ≡ replicate (length table.old) x }
-{
-    let mut i: usize = 0;
-    while i < table.len() {
-        table[i] = x;
-        i += 1;
-    }
+    nodes - nodes.saturating_sub(1) / 8
 }
 
 // ---- the leaves' numbers and slabs
@@ -89,14 +65,10 @@ fn number_leaves(
     ensures { Prepared (nodes_of keys.now firsts.now) exponent first.new last.new }
 {
     let mut number: usize = 0;
-    let mut place: usize = 0;
-    while place < nodes {
+    for place in 0..nodes {
         last[place - place / 8] = 65536 * (number + place % 8 / 7) as u32;
         if tree::first_at(firsts, place) == 0 {
             number = put_leaf(first, number, slabs::slab_at(keys[place], exponent));
-            place += 1;
-        } else {
-            place += 1;
         }
     }
 }
@@ -133,17 +105,13 @@ fn leaves_of_cell(
     let mut numbers = [0usize; 8];
     let mut low: u32 = 65535;
     let mut high: u32 = 0;
-    let mut o: usize = 0;
-    while o < 8 {
+    for o in 0..8 {
         let number = number_at(firsts, nodes, last, places[8 * at + o]);
         numbers[o] = number;
         if number < first.len() {
             let slab = first[number] / 65536;
-            low = slabs::lesser(low, slab);
-            high = slabs::greater(high, slab);
-            o += 1;
-        } else {
-            o += 1;
+            low = low.min(slab);
+            high = high.max(slab);
         }
     }
     Meeting { numbers, low, high }
@@ -156,9 +124,9 @@ fn pull(first: &mut [u32], last: &mut [u32], number: usize, low: u32, high: u32)
 {
     if number < first.len() {
         let a = first[number];
-        first[number] = a - a % 65536 + slabs::lesser(a % 65536, low);
+        first[number] = a - a % 65536 + (a % 65536).min(low);
         let b = last[number];
-        last[number] = b - b % 65536 + slabs::greater(b % 65536, high);
+        last[number] = b - b % 65536 + (b % 65536).max(high);
     }
 }
 
@@ -167,10 +135,8 @@ fn pull_all(first: &mut [u32], last: &mut [u32], cell: Meeting)
     requires { (length first.old ≡ length last.old) × (cell.low ≤ 65535) × (cell.high ≤ 65535) }
     ensures { Widened cell.numbers 8 cell.low cell.high first.old last.old first.new last.new }
 {
-    let mut o: usize = 0;
-    while o < 8 {
-        pull(first, last, cell.numbers[o], cell.low, cell.high);
-        o += 1;
+    for number in cell.numbers {
+        pull(first, last, number, cell.low, cell.high);
     }
 }
 
@@ -187,11 +153,9 @@ fn widen(
     requires cells_in_bounds { 8 * cells ≤ length places.now }
     ensures { Widens firsts.now nodes (take (8 * cells) places.now) first.old last.old first.new last.new }
 {
-    let mut at: usize = 0;
-    while at < cells {
+    for at in 0..cells {
         let cell = leaves_of_cell(firsts, nodes, first, last, places, at);
         pull_all(first, last, cell);
-        at += 1;
     }
 }
 
@@ -236,18 +200,15 @@ fn unpack(first: &mut [u32], last: &mut [u32])
     requires { length first.old ≡ length last.old }
     ensures { AllUnpacked first.old last.old first.new last.new }
 {
-    let mut i: usize = 0;
-    while i < first.len() {
+    for i in 0..first.len() {
         let a = first[i] % 65536;
         let b = last[i] % 65536;
         if b < a {
             first[i] = 1;
             last[i] = 0;
-            i += 1;
         } else {
             first[i] = a;
             last[i] = b;
-            i += 1;
         }
     }
 }
@@ -260,22 +221,14 @@ fn differ(first: &[u32], last: &[u32], needed: &mut [u32])
     requires needed_value { needed.old ≡ replicate (length needed.old) 0 }
     ensures { Differs first.now last.now (length first.now) needed.old needed.new }
 {
-    let mut i: usize = 0;
-    while i < first.len() {
+    for i in 0..first.len() {
         let a = first[i] as usize;
         let b = last[i] as usize;
         if a <= b {
-            let up = std::num::wrapping_add_u32(needed[a], 1);
-            needed[a] = up;
+            needed[a] = needed[a].wrapping_add(1);
             if b + 1 < needed.len() {
-                let down = std::num::wrapping_sub_u32(needed[b + 1], 1);
-                needed[b + 1] = down;
-                i += 1;
-            } else {
-                i += 1;
+                needed[b + 1] = needed[b + 1].wrapping_sub(1);
             }
-        } else {
-            i += 1;
         }
     }
 }
@@ -287,11 +240,9 @@ fn sum_up(first: &[u32], last: &[u32], needed: &mut [u32])
     ensures { SumsUp first.now last.now needed.old needed.new }
 {
     let mut here: u32 = 0;
-    let mut slab: usize = 0;
-    while slab < needed.len() {
-        here = std::num::wrapping_add_u32(here, needed[slab]);
-        needed[slab] = here;
-        slab += 1;
+    for number in needed.iter_mut() {
+        here = here.wrapping_add(*number);
+        *number = here;
     }
 }
 
@@ -300,10 +251,8 @@ fn greatest_in(table: &[u32]) -> u32
     ensures { result ≡ most_in table.now (length table.now) }
 {
     let mut top: u32 = 0;
-    let mut slab: usize = 0;
-    while slab < table.len() {
-        top = slabs::greater(top, table[slab]);
-        slab += 1;
+    for number in table {
+        top = top.max(*number);
     }
     top
 }
@@ -313,7 +262,7 @@ fn count(first: &[u32], last: &[u32], needed: &mut [u32]) -> u32
     requires { (length first.now ≡ length last.now) × (length first.now < 2 ^ 32) × Within last.now (length needed.old) }
     ensures { Counted first.now last.now needed.old needed.new result }
 {
-    fill(needed, 0);
+    needed.fill(0);
     differ(first, last, needed);
     sum_up(first, last, needed);
     greatest_in(needed)
@@ -334,8 +283,8 @@ fn spans(
     requires first_len { (length first.old ≡ leaves_of nodes) × (length last.old ≡ leaves_of nodes) }
     ensures { SpansLeft (nodes_of keys.now firsts.now) exponent first.new last.new }
 {
-    fill(first, 65535);
-    fill(last, 0);
+    first.fill(65535);
+    last.fill(0);
     number_leaves(keys, firsts, nodes, exponent, first, last);
     go_over(keys, firsts, nodes, first, last);
     unpack(first, last);
@@ -364,16 +313,7 @@ fn have_room(leaves: usize, exponent: u32, first: &[u32], last: &[u32], needed: 
     requires { exponent ≤ limit }
     ensures { Decides result (Room leaves exponent (reports_of first.now last.now needed.now)) }
 {
-    if first.len() < leaves {
-        return false;
-    }
-    if last.len() < leaves {
-        return false;
-    }
-    if needed.len() < 1 << exponent {
-        return false;
-    }
-    true
+    leaves <= first.len() && leaves <= last.len() && 1 << exponent <= needed.len()
 }
 
 // The report, for one who knows that the tree is sound; of other tables, what the same walk comes to.
@@ -391,7 +331,8 @@ pub fn lifetimes_trusting(
     if exponent > morton::LIMIT {
         return LifetimesAnswer::Refused(5);
     }
-    let nodes = nodes_in(keys.len());
+    // No sound tree has more nodes, so no more are looked at.
+    let nodes = keys.len().min(65537);
     let leaves = leaves_of(nodes);
     if !have_room(leaves, exponent, first, last, needed) {
         return LifetimesAnswer::Refused(17);

@@ -1,19 +1,12 @@
 -- `go_over` meets its contract: batch after batch, until one isn't full. Assumes nothing.
 use Prim.Native.Nat.{◌≤◌}
-use Rattle.std.proofs.Common.{sym, refl, ◌∙◌, arith}
+use Rattle.std.proofs.Common.{refl, ◌∙◌, arith}
 use Rattle.vertices.specs.Cells.{cells_of}
 use Rattle.lifetimes.proofs.Going.{going_none, going_all, Sized, at_most_64, next_fits, going_less, going_more}
 use Rattle.lifetimes.proofs.go_over.Goals as goal
 
 pub loop-came-init : goal.loop-came-init
 loop-came-init c = ((refl, refl, refl), going_none _ _ _ _ c.requires)
-
--- once a batch has come: w is what `cells_trusting` left
-pub slice_bounds-widen-end : goal.slice_bounds-widen-end
-slice_bounds-widen-end c =
-    let l = c.loop-came in
-    let w = c.cells_trusting-came in
-    sym (w.auto.places ∙ l.invariant.0.2)
 
 pub widen-requires : goal.widen-requires
 widen-requires c =
@@ -22,12 +15,6 @@ widen-requires c =
     let sized : Sized (cells_of w.new.vertices w.new.levels w.new.places) = (w.auto.vertices ∙ l.invariant.0.0, w.auto.levels ∙ l.invariant.0.1, w.auto.places ∙ l.invariant.0.2) in
     let few : w.result ≤ 64 = at_most_64 l.invariant.1 c.loop-came-test.true _ _ l.invariant.0 w.ensures in
     record { ready = l.invariant.1.widens.ready; cells_in_bounds = omega (arith, few, sized.2) }
-
-pub slice_bounds-next_from-end : goal.slice_bounds-next_from-end
-slice_bounds-next_from-end c =
-    let l = c.loop-came in
-    let w = c.cells_trusting-came in
-    sym (w.auto.vertices ∙ l.invariant.0.0)
 
 pub next_from-from-requires : goal.next_from-from-requires
 next_from-from-requires c =
@@ -47,12 +34,6 @@ loop-came-preserved c =
     let w = c.cells_trusting-came in
     let sized : Sized (cells_of w.new.vertices w.new.levels w.new.places) = (w.auto.vertices ∙ l.invariant.0.0, w.auto.levels ∙ l.invariant.0.1, w.auto.places ∙ l.invariant.0.2) in
     (sized, going_more l.invariant.1 c.loop-came-test.true _ _ l.invariant.0 w.ensures c.next_from-from.ensures c.widen.ensures)
-
-pub shape_of-first : goal.shape_of-first
-shape_of-first c = c.loop-came.invariant.1.widens.ready.first_long ∙ sym c.requires.first_long
-
-pub shape_of-last : goal.shape_of-last
-shape_of-last c = c.loop-came.invariant.1.widens.ready.last_long ∙ sym c.requires.last_long
 
 pub returns : goal.returns
 returns c = going_all c.loop-came.invariant.1 c.loop-came-test.false
