@@ -121,10 +121,6 @@ pub record Widens (firsts : List ℕ) (nodes : ℕ) (more first last first' last
   pub spans : (slab : ℕ → ℕ) (places : List ℕ) (cells : ℕ) → length places ≡ 8 * cells → Spanned firsts nodes slab places first last
       → Spanned firsts nodes slab (places ++ more) first' last'
 
--- After a full batch the vertices go on from the last one + 1.
-abbrev pub NextFrom : List ℕ → ℕ → ℕ → Type 0
-NextFrom vertices came r = ((came ≡ 64) × (r ≡ slice_index vertices 63 + 1)) ⊎ ((came ≢ 64) × (r ≡ 0))
-
 -- The slab of the key that stands at a place.
 abbrev pub own_slab : Nodes → ℕ → ℕ → ℕ
 own_slab n s p = slab_of s (slice_index n.keys p)

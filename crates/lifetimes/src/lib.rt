@@ -8,7 +8,7 @@ ghost use Rattle.vertices.specs.Walk.{spots_of};
 ghost use Rattle.vertices.specs.Cells.{places_of};
 ghost use Rattle.lifetimes.specs.Needed.{Room, reports_of, LifetimesSays};
 ghost use Rattle.lifetimes.specs.Trusted.{nodes_in, leaves_of, TrustingSays};
-ghost use Rattle.lifetimes.specs.Steps.{PutLeaf, Numbered, Ready, Finds, MeetingSays, PullSays, Widened, Widens, NextFrom, Prepared, AllUnpacked, Within, SpansLeft, Differs, SumsUp, most_in, Counted, ReportLeft};
+ghost use Rattle.lifetimes.specs.Steps.{PutLeaf, Numbered, Ready, Finds, MeetingSays, PullSays, Widened, Widens, Prepared, AllUnpacked, Within, SpansLeft, Differs, SumsUp, most_in, Counted, ReportLeft};
 
 // The greatest number of leaves that are needed at one slab, or the number of the refusal.
 #[derive(Clone, Copy)]
@@ -43,12 +43,8 @@ fn put_leaf(first: &mut [u32], number: usize, slab: u32) -> usize
 {
     if number < first.len() {
         first[number] = 65536 * slab + 65535;
-        return number + 1;
     }
-    if number == first.len() {
-        return number + 1;
-    }
-    number
+    (number + 1).min(first.len() + 1)
 }
 
 // Takes down the number of each leaf and its slab.
@@ -159,17 +155,6 @@ fn widen(
     }
 }
 
-// From where the vertices go on after a full batch; after another there are none.
-fn next_from(vertices: &[u64], came: usize) -> u64
-    requires { (length vertices.now ≡ 64) × (came ≡ 64 → slice_index vertices.now 63 + 1 < 2 ^ 64) }
-    ensures { NextFrom vertices.now came result }
-{
-    if came == 64 {
-        return vertices[63] + 1;
-    }
-    0
-}
-
 // Goes over the cells of all vertices, 64 at a time: so many that beginning anew at the root costs little, and so few that they fit on the stack.
 fn go_over(keys: &[u64], firsts: &[u16], nodes: usize, first: &mut [u32], last: &mut [u32])
     requires { Ready firsts.now nodes first.old last.old }
@@ -180,9 +165,8 @@ fn go_over(keys: &[u64], firsts: &[u16], nodes: usize, first: &mut [u32], last: 
     let mut levels = [0u8; 64];
     let mut places = [0usize; 512];
     let mut from: u64 = 0;
-    let mut came: usize = 64;
-    while came == 64 {
-        came = vertices::cells_trusting(
+    loop {
+        let came = vertices::cells_trusting(
             keys,
             firsts,
             from,
@@ -191,7 +175,10 @@ fn go_over(keys: &[u64], firsts: &[u16], nodes: usize, first: &mut [u32], last: 
             &mut places,
         );
         widen(firsts, nodes, first, last, &places, came);
-        from = next_from(&vertices, came);
+        if came < 64 {
+            return;
+        }
+        from = vertices[63] + 1;
     }
 }
 
