@@ -1,5 +1,5 @@
 -- The cells that the walk over a sound tree finds are the dual cells of its listed vertices, and their nodes are leaves. Assumes nothing.
-use Rattle.std.proofs.Common.{◌≡◌, ℕ, zero, suc, ◌+◌, ◌-◌, ◌*◌, ◌/◌, ◌^◌, ◌<◌, ◌≤◌, true, List, length, get_or, drop, sym, refl, ap, ◌∙◌, subst, ap₂, subst₂, arith, get_or-drop, get_or-take}
+use Rattle.std.proofs.Common.{◌≡◌, ℕ, zero, suc, ◌+◌, ◌-◌, ◌*◌, ◌/◌, ◌^◌, ◌<◌, ◌≤◌, true, List, length, get_or, drop, sym, refl, ap, ◌∙◌, subst, ap₂, subst₂, arith, get_or-drop, get_or-take, Ok}
 use lib.Ieee.{Float}
 use Rattle.morton.specs.Level.{deepest, level, Cell}
 use Rattle.morton.specs.Vertex.{is_inner, side_of}
@@ -21,7 +21,6 @@ use Rattle.vertices.proofs.Blocks.{vertices_length}
 use Rattle.vertices.proofs.Law.{spots_listed}
 use Rattle.vertices.proofs.Rounds.{spots_right}
 use Rattle.vertices.proofs.Storing.{places_length}
-use Rattle.dual.specs.declared.Tried.TheVariants.{Keys}
 use Rattle.dual.specs.Dual.{DualCell}
 use Rattle.dual.proofs.Filling.{answer_at, trusting_dual}
 use Rattle.slabs.proofs.Spans.{side_is, level_side}
@@ -77,7 +76,7 @@ module _ (t : Tree) (S : Sound t) where
         word = p.word;
         inner = p.inner;
         more = p.more;
-        dual = (trusting_dual t S _ _ p.word keys distances (places_at j (places t)) (Keys tried) says).3;
+        dual = (trusting_dual t S _ _ p.word keys distances (places_at j (places t)) (Ok tried) says).3;
       }
 
   -- each listed cell is one of them

@@ -1,20 +1,16 @@
 -- Of a sound tree, the report from the walk's cells is the one that is promised of its dual cells. Assumes nothing.
-use Rattle.std.proofs.Common.{◌≡◌, ℕ, zero, suc, ◌+◌, ◌*◌, ◌/◌, ◌%◌, ◌^◌, ◌<◌, ◌≤◌, ◌⊎◌, List, length, get_or, sym, refl, ap, ◌∙◌, subst, inl, inr, ⊎_elim, le_antisymm, arith}
+use Rattle.std.proofs.Common.{◌≡◌, ℕ, zero, suc, ◌+◌, ◌*◌, ◌/◌, ◌%◌, ◌^◌, ◌<◌, ◌≤◌, ◌⊎◌, List, length, get_or, sym, refl, ap, ◌∙◌, subst, inl, inr, ⊎_elim, le_antisymm, arith, Result, Ok, Err}
 use lib.Ieee.{Float}
 use Rattle.morton.specs.Level.{limit}
 use Rattle.tree.specs.Tree.{Tree, StandsAt, In, Sound}
 use Rattle.tree.proofs.Finding.{nodes}
 use Rattle.tree.proofs.Lists.{in_stands}
 use Rattle.vertices.proofs.Law.{spots_listed}
-use Rattle.dual.specs.declared.Tried.{Tried}
-use Rattle.dual.specs.declared.Tried.TheVariants as tried
 use Rattle.dual.specs.Dual.{DualCell, DualSays}
-use Rattle.slabs.specs.declared.SlabsAnswer.TheVariants.{Reach}
-use Rattle.slabs.specs.Heights.{slab_of, Reaches, OfCell}
+use Rattle.refusals.specs.declared.Refusal.{Refusal}
+use Rattle.slabs.specs.Heights.{reach, slab_of, Reaches, OfCell}
 use Rattle.slabs.proofs.Outermost.{Both, both_one, both_more, both_all}
 use Rattle.slabs.proofs.Spans.{reach_each}
-use Rattle.lifetimes.specs.declared.LifetimesAnswer.{LifetimesAnswer}
-use Rattle.lifetimes.specs.declared.LifetimesAnswer.TheVariants.{Greatest, Refused}
 use Rattle.lifetimes.specs.Needed.{CellOf, LeastOf, GreatestOf, SpanOf, Never, Spans, Reports, Room, LifetimesSays}
 use Rattle.lifetimes.specs.Trusted.{Sharing, Shared, Alone, TrustedSpans, TrustingSays}
 use Rattle.lifetimes.proofs.Leaves.{Leaf, all_leaves, leaf_key, leaf_here}
@@ -55,15 +51,15 @@ cell_of t S s small j h c k m =
           its_level = record { inside = omega (arith, (spots_listed t S).paired); here = refl };
         };
         has = record { keys = c.keys; distances = c.distances; places = _; tried = c.tried; cell = c.dual; entry = m };
-        slabs = (record { tried = tried.Keys c.tried; keys = c.keys; distances = c.distances; places = _ }, (S, c.inner, c.more, c.dual), (small, r));
+        slabs = (record { tried = Ok c.tried; keys = c.keys; distances = c.distances; places = _ }, (S, c.inner, c.more, c.dual), (small, r));
       },
     )
 
 -- a cell whose slabs are told is a dual cell that reaches them
-reaching : (t : Tree) (L v s first last : ℕ) {keys : List ℕ} {distances : List Float} {those : List ℕ} (a : Tried) → DualSays t L v keys distances those a → OfCell a keys s (Reach first last)
+reaching : (t : Tree) (L v s first last : ℕ) {keys : List ℕ} {distances : List Float} {those : List ℕ} (a : Result ℕ Refusal) → DualSays t L v keys distances those a → OfCell a keys s (reach first last)
     → ((n : ℕ) × DualCell t L v keys distances those n) × Reaches keys s first last
-reaching t L v s first last (tried.Keys n) (_, _, _, c) (_, r) = ((n, c), r)
-reaching t L v s first last (tried.Refused k) p e = let z : ◌≡◌ {A = ℕ} 0 1 = cc in absurd (omega arith)
+reaching t L v s first last (Ok n) (_, _, _, c) (_, r) = ((n, c), r)
+reaching t L v s first last (Err k) p e = absurd (cc)
 
 module _ (t : Tree) (S : Sound t) (short : (i : ℕ) → i < length t.firsts → get_or t.firsts i 0 < 2 ^ 16) (s : ℕ) where
   -- leaf i is entry o of a cell: entry q shares that cell
@@ -179,9 +175,9 @@ module _ (t : Tree) (S : Sound t) (short : (i : ℕ) → i < length t.firsts →
         each = λ i h. span i h small (a.each i (omega (arith, all_leaves t S short)));
       }
 
-pub trusting_lifetimes : (t : Tree) → Sound t → ((i : ℕ) → i < length t.firsts → get_or t.firsts i 0 < 2 ^ 16) → (s : ℕ) (was left : Reports) (r : LifetimesAnswer)
+pub trusting_lifetimes : (t : Tree) → Sound t → ((i : ℕ) → i < length t.firsts → get_or t.firsts i 0 < 2 ^ 16) → (s : ℕ) (was left : Reports) (r : Result ℕ Refusal)
     → TrustingSays (nodes t) s was left r → LifetimesSays t s was left r
-trusting_lifetimes t S short s was left (Greatest most) (small, room, a) = (
+trusting_lifetimes t S short s was left (Ok most) (small, room, a) = (
   S,
   small,
   subst (λ (m : ℕ). Room m s was) (all_leaves t S short) room,
@@ -194,7 +190,7 @@ trusting_lifetimes t S short s was left (Greatest most) (small, room, a) = (
     left_is = a.left_is;
   },
 )
-trusting_lifetimes t S short s was left (Refused k) (stays, why) = (
+trusting_lifetimes t S short s was left (Err e) (stays, why) = (
   stays,
   inr (⊎_elim (λ a. inl (S, a.0, a.1))
       (λ a. inr (S, a.0, (λ room. a.1 (subst (λ (m : ℕ). Room m s was) (sym (all_leaves t S short)) room)), a.2)) why),

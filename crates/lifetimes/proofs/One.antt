@@ -1,13 +1,13 @@
 -- One answer only: two answers of a call that meet its promise are the same, and so are the tables. Of a sound tree both calls have the same. Assumes
 -- nothing.
-use Rattle.std.proofs.Common.{◌≡◌, ℕ, ◌^◌, ◌<◌, ◌≤◌, ◌⊎◌, List, length, get_or, sym, ◌∙◌, subst₂, inl, inr, ⊎_elim, le_antisymm, arith, ext_get_or}
+use Rattle.std.proofs.Common.{◌≡◌, ℕ, ◌^◌, ◌<◌, ◌≤◌, ◌⊎◌, List, length, get_or, sym, ◌∙◌, subst₂, inl, inr, ⊎_elim, le_antisymm, arith, ext_get_or, Result, Ok, Err}
 use Rattle.morton.specs.Level.{limit}
 use Rattle.morton.proofs.One.{OnlyOne}
 use Rattle.tree.specs.Tree.{Tree, Sound}
 use Rattle.tree.specs.Down.{Nodes}
 use Rattle.tree.proofs.Finding.{nodes}
-use Rattle.lifetimes.specs.declared.LifetimesAnswer.{LifetimesAnswer}
-use Rattle.lifetimes.specs.declared.LifetimesAnswer.TheVariants.{Greatest, Refused}
+use Rattle.refusals.specs.declared.Refusal.{Refusal}
+use Rattle.refusals.specs.declared.Refusal.TheVariants.{AboveFifteen, ReportShort}
 use Rattle.lifetimes.specs.Needed.{CellOf, LeastOf, GreatestOf, Counts, Reports, Room, stands, Reported, LifetimesSays}
 use Rattle.lifetimes.specs.Trusted.{nodes_in, leaves_of, Sharing, TrustedReport, TrustingSays}
 use Rattle.lifetimes.proofs.Counting.{greatest_one, count_one}
@@ -40,7 +40,7 @@ module _ (s m : ℕ) (was : Reports) (From To : ℕ → ℕ → Type 0) where
     needed : Counts s firsts lasts counts most
     left_is : left ≡ stands was firsts lasts counts
 
-  told_one : {left right : Reports} {most top : ℕ} → Told left most → Told right top → ◌≡◌ {A = Reports × LifetimesAnswer} (left, Greatest most) (right, Greatest top)
+  told_one : {left right : Reports} {most top : ℕ} → Told left most → Told right top → ◌≡◌ {A = Reports × Result ℕ Refusal} (left, Ok most) (right, Ok top)
   told_one {most = most} a b =
       let f : a.firsts ≡ b.firsts =
       ext_get_or 0 a.firsts b.firsts (a.as_many_firsts ∙ sym b.as_many_firsts) (λ i h. (same i (omega (arith, a.as_many_firsts))).0) in
@@ -48,28 +48,28 @@ module _ (s m : ℕ) (was : Reports) (From To : ℕ → ℕ → Type 0) where
       ext_get_or 0 a.lasts b.lasts (a.as_many_lasts ∙ sym b.as_many_lasts) (λ i h. (same i (omega (arith, a.as_many_lasts))).1) in
       let n : Counts s b.firsts b.lasts a.counts most = subst₂ (λ (f l : List ℕ). Counts s f l a.counts most) f l a.needed in
       let (c, e) = count_one n b.needed in
-      λ i. ((a.left_is ∙ (λ j. stands was (f j) (l j) (c j)) ∙ sym b.left_is) i, Greatest (e i))
+      λ i. ((a.left_is ∙ (λ j. stands was (f j) (l j) (c j)) ∙ sym b.left_is) i, Ok (e i))
     where
       same : (i : ℕ) → i < m → (get_or a.firsts i 0 ≡ get_or b.firsts i 0) × (get_or a.lasts i 0 ≡ get_or b.lasts i 0)
       same i h = ends_one (From i) (To i) (a.each i h) (b.each i h)
 
 -- why there is no report
 module _ (s m : ℕ) (was : Reports) where
-  abbrev Why : ℕ → Type 0
-  Why k = ((limit < s) × (k ≡ 5)) ⊎ ((s ≤ limit) × (Room m s was → ⊥) × (k ≡ 17))
+  abbrev Why : Refusal → Type 0
+  Why k = ((limit < s) × (k ≡ AboveFifteen)) ⊎ ((s ≤ limit) × (Room m s was → ⊥) × (k ≡ ReportShort))
 
-  why_one : {j k : ℕ} → Why j → Why k → j ≡ k
+  why_one : {j k : Refusal} → Why j → Why k → j ≡ k
   why_one (inl a) (inl b) = a.1 ∙ sym b.1
   why_one (inl a) (inr b) = absurd (omega (arith, a.0, b.0))
   why_one (inr a) (inl b) = absurd (omega (arith, a.0, b.0))
   why_one (inr a) (inr b) = a.2 ∙ sym b.2
 
-  not_why : {k : ℕ} → s ≤ limit → Room m s was → Why k → ⊥
+  not_why : {k : Refusal} → s ≤ limit → Room m s was → Why k → ⊥
   not_why h room (inl a) = omega (arith, a.0)
   not_why h room (inr a) = a.1 room
 
-refused_one : {was left right : Reports} {j k : ℕ} → left ≡ was → right ≡ was → j ≡ k → ◌≡◌ {A = Reports × LifetimesAnswer} (left, Refused j) (right, Refused k)
-refused_one a b e = λ i. ((a ∙ sym b) i, Refused (e i))
+refused_one : {was left right : Reports} {j k : Refusal} → left ≡ was → right ≡ was → j ≡ k → ◌≡◌ {A = Reports × Result ℕ Refusal} (left, Err j) (right, Err k)
+refused_one a b e = λ i. ((a ∙ sym b) i, Err (e i))
 
 -- ---- of a tree that is trusted
 
@@ -90,11 +90,11 @@ module _ (n : Nodes) (s : ℕ) (was : Reports) where
         left_is = a.left_is;
       }
 
-  pub lifetimes_trusting_one : OnlyOne (λ (o : Reports × LifetimesAnswer). TrustingSays n s was o.0 o.1)
-  lifetimes_trusting_one (left, Greatest x) (right, Greatest y) a b = told_one s m was (Sharing n s) (Sharing n s) (trusted a.2) (trusted b.2)
-  lifetimes_trusting_one (left, Greatest x) (right, Refused k) a b = absurd (not_why s m was a.0 a.1 b.1)
-  lifetimes_trusting_one (left, Refused j) (right, Greatest y) a b = absurd (not_why s m was b.0 b.1 a.1)
-  lifetimes_trusting_one (left, Refused j) (right, Refused k) a b = refused_one a.0 b.0 (why_one s m was a.1 b.1)
+  pub lifetimes_trusting_one : OnlyOne (λ (o : Reports × Result ℕ Refusal). TrustingSays n s was o.0 o.1)
+  lifetimes_trusting_one (left, Ok x) (right, Ok y) a b = told_one s m was (Sharing n s) (Sharing n s) (trusted a.2) (trusted b.2)
+  lifetimes_trusting_one (left, Ok x) (right, Err k) a b = absurd (not_why s m was a.0 a.1 b.1)
+  lifetimes_trusting_one (left, Err j) (right, Ok y) a b = absurd (not_why s m was b.0 b.1 a.1)
+  lifetimes_trusting_one (left, Err j) (right, Err k) a b = refused_one a.0 b.0 (why_one s m was a.1 b.1)
 
 -- ---- of a tree that is checked
 
@@ -118,23 +118,23 @@ module _ (t : Tree) (s : ℕ) (was : Reports) where
         left_is = a.left_is;
       }
 
-  abbrev SoundWhy : ℕ → Type 0
-  SoundWhy k = (Sound t × (limit < s) × (k ≡ 5)) ⊎ (Sound t × (s ≤ limit) × (Room (length t.leaves) s was → ⊥) × (k ≡ 17))
+  abbrev SoundWhy : Refusal → Type 0
+  SoundWhy k = (Sound t × (limit < s) × (k ≡ AboveFifteen)) ⊎ (Sound t × (s ≤ limit) × (Room (length t.leaves) s was → ⊥) × (k ≡ ReportShort))
 
-  is_sound : {k : ℕ} → SoundWhy k → Sound t
+  is_sound : {k : Refusal} → SoundWhy k → Sound t
   is_sound = ⊎_elim (λ a. a.0) (λ a. a.0)
 
-  why : {k : ℕ} → SoundWhy k → Why s (length t.leaves) was k
+  why : {k : Refusal} → SoundWhy k → Why s (length t.leaves) was k
   why = ⊎_elim (λ a. inl (a.1, a.2)) (λ a. inr (a.1, a.2, a.3))
 
-  not_refused : {left right : Reports} {x k : ℕ} → LifetimesSays t s was left (Greatest x) → LifetimesSays t s was right (Refused k) → ⊥
+  not_refused : {left right : Reports} {x : ℕ} {k : Refusal} → LifetimesSays t s was left (Ok x) → LifetimesSays t s was right (Err k) → ⊥
   not_refused a b = ⊎_elim (λ n. n.0 a.0) (λ w. not_why s (length t.leaves) was a.1 a.2 (why w)) b.1
 
-  pub lifetimes_one : OnlyOne (λ (o : Reports × LifetimesAnswer). LifetimesSays t s was o.0 o.1)
-  lifetimes_one (left, Greatest x) (right, Greatest y) a b = told_one s (length t.leaves) was FirstOf LastOf (reported a.3) (reported b.3)
-  lifetimes_one (left, Greatest x) (right, Refused k) a b = absurd (not_refused a b)
-  lifetimes_one (left, Refused j) (right, Greatest y) a b = absurd (not_refused b a)
-  lifetimes_one (left, Refused j) (right, Refused k) a b =
+  pub lifetimes_one : OnlyOne (λ (o : Reports × Result ℕ Refusal). LifetimesSays t s was o.0 o.1)
+  lifetimes_one (left, Ok x) (right, Ok y) a b = told_one s (length t.leaves) was FirstOf LastOf (reported a.3) (reported b.3)
+  lifetimes_one (left, Ok x) (right, Err k) a b = absurd (not_refused a b)
+  lifetimes_one (left, Err j) (right, Ok y) a b = absurd (not_refused b a)
+  lifetimes_one (left, Err j) (right, Err k) a b =
       refused_one a.0 b.0
       (⊎_elim
       (λ n. ⊎_elim (λ o. n.1 ∙ sym o.1) (λ w. absurd (n.0 (is_sound w))) b.1)
@@ -142,6 +142,6 @@ module _ (t : Tree) (s : ℕ) (was : Reports) where
       a.1)
 
   -- of a sound tree the report of one who trusts is the same
-  pub trusting_is_lifetimes : Sound t → ((i : ℕ) → i < length t.firsts → get_or t.firsts i 0 < 2 ^ 16) → (o p : Reports × LifetimesAnswer)
+  pub trusting_is_lifetimes : Sound t → ((i : ℕ) → i < length t.firsts → get_or t.firsts i 0 < 2 ^ 16) → (o p : Reports × Result ℕ Refusal)
       → LifetimesSays t s was o.0 o.1 → TrustingSays (nodes t) s was p.0 p.1 → o ≡ p
   trusting_is_lifetimes S short o p a b = lifetimes_one o p a (trusting_lifetimes t S short s was p.0 p.1 b)

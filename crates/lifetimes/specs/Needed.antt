@@ -1,14 +1,13 @@
 -- From which slab to which slab each leaf is needed, said from the cells and not from the search. Assumes nothing.
-use Rattle.std.specs.Prelude.{◌≡◌, ℕ, zero, suc, ◌+◌, ◌^◌, ◌<◌, ◌≤◌, Bool, cond, ◌&&◌, ◌⊎◌, List, length, nat_le, slice_index, Float}
+use Rattle.std.specs.Prelude.{◌≡◌, ℕ, zero, suc, ◌+◌, ◌^◌, ◌<◌, ◌≤◌, Bool, cond, ◌&&◌, ◌⊎◌, List, length, nat_le, slice_index, Float, Result, Ok, Err}
 use Rattle.morton.specs.Level.{limit}
 use Rattle.tree.specs.Tree.{Tree, StandsAt, In, Sound}
 use Rattle.geometry.specs.Listing.{Listed}
 use Rattle.vertices.specs.Listing.{written}
 use Rattle.dual.specs.Dual.{DualCell}
-use Rattle.slabs.specs.declared.SlabsAnswer.TheVariants.{Reach}
-use Rattle.slabs.specs.Heights.{SlabsSays}
-use Rattle.lifetimes.specs.declared.LifetimesAnswer.{LifetimesAnswer}
-use Rattle.lifetimes.specs.declared.LifetimesAnswer.TheVariants.{Greatest, Refused}
+use Rattle.slabs.specs.Heights.{reach, SlabsSays}
+use Rattle.refusals.specs.declared.Refusal.{Refusal}
+use Rattle.refusals.specs.declared.Refusal.TheVariants.{AboveFifteen, NotSound, ReportShort}
 
 -- A listed cell: a vertex of the tree's list with its level.
 pub record ListedCell (t : Tree) (v L : ℕ) : Type 0 where
@@ -34,7 +33,7 @@ pub record CellOf (t : Tree) (s k first last : ℕ) : Type 0 where
   pub level : ℕ
   pub listed : ListedCell t vertex level
   pub has : Has t vertex level k
-  pub slabs : SlabsSays t level vertex s (Reach first last)
+  pub slabs : SlabsSays t level vertex s (reach first last)
 
 -- The least number of a kind, and the greatest.
 pub record LeastOf (Kind : ℕ → Type 0) (x : ℕ) : Type 0 where
@@ -114,10 +113,10 @@ pub record Reported (t : Tree) (s : ℕ) (was left : Reports) (most : ℕ) : Typ
   pub left_is : left ≡ stands was firsts lasts counts
 
 -- Refusals 11, 5, 17.
-abbrev pub LifetimesSays : Tree → ℕ → Reports → Reports → LifetimesAnswer → Type 0
-LifetimesSays t s was left (Greatest most) = Sound t × (s ≤ limit) × Room (length t.leaves) s was × Reported t s was left most
-LifetimesSays t s was left (Refused k) =
+abbrev pub LifetimesSays : Tree → ℕ → Reports → Reports → Result ℕ Refusal → Type 0
+LifetimesSays t s was left (Ok most) = Sound t × (s ≤ limit) × Room (length t.leaves) s was × Reported t s was left most
+LifetimesSays t s was left (Err e) =
     (left ≡ was)
-    × (((Sound t → ⊥) × (k ≡ 11))
-    ⊎ ((Sound t × (limit < s) × (k ≡ 5))
-    ⊎ (Sound t × (s ≤ limit) × (Room (length t.leaves) s was → ⊥) × (k ≡ 17))))
+    × (((Sound t → ⊥) × (e ≡ NotSound))
+    ⊎ ((Sound t × (limit < s) × (e ≡ AboveFifteen))
+    ⊎ (Sound t × (s ≤ limit) × (Room (length t.leaves) s was → ⊥) × (e ≡ ReportShort))))

@@ -1,12 +1,12 @@
 -- The same on any tables at all, where no tree need be sound. Assumes nothing.
-use Rattle.std.specs.Prelude.{◌≡◌, ℕ, ◌-◌, ◌/◌, ◌<◌, ◌≤◌, min, Bool, ◌⊎◌, List, length, ◌==◌, slice_index, slice_index_or}
+use Rattle.std.specs.Prelude.{◌≡◌, ℕ, ◌-◌, ◌/◌, ◌<◌, ◌≤◌, min, Bool, ◌⊎◌, List, length, ◌==◌, slice_index, slice_index_or, Result, Ok, Err}
 use Rattle.morton.specs.Level.{limit}
 use Rattle.tree.specs.Down.{Nodes}
 use Rattle.vertices.specs.Walk.{spots_of}
 use Rattle.vertices.specs.Cells.{places_of}
 use Rattle.slabs.specs.Heights.{slab_of}
-use Rattle.lifetimes.specs.declared.LifetimesAnswer.{LifetimesAnswer}
-use Rattle.lifetimes.specs.declared.LifetimesAnswer.TheVariants.{Greatest, Refused}
+use Rattle.refusals.specs.declared.Refusal.{Refusal}
+use Rattle.refusals.specs.declared.Refusal.TheVariants.{AboveFifteen, ReportShort}
 use Rattle.lifetimes.specs.Needed.{LeastOf, GreatestOf, how_many, Counts, Reports, Room, stands}
 
 -- No sound tree has more nodes: the place of a first child has 16 bits.
@@ -73,7 +73,7 @@ pub record TrustedReport (n : Nodes) (s : ℕ) (was left : Reports) (most : ℕ)
   pub left_is : left ≡ stands was firsts lasts counts
 
 -- Refusals 5, 17.
-abbrev pub TrustingSays : Nodes → ℕ → Reports → Reports → LifetimesAnswer → Type 0
-TrustingSays n s was left (Greatest most) = (s ≤ limit) × Room (leaves_of (nodes_in n)) s was × TrustedReport n s was left most
-TrustingSays n s was left (Refused k) =
-    (left ≡ was) × (((limit < s) × (k ≡ 5)) ⊎ ((s ≤ limit) × (Room (leaves_of (nodes_in n)) s was → ⊥) × (k ≡ 17)))
+abbrev pub TrustingSays : Nodes → ℕ → Reports → Reports → Result ℕ Refusal → Type 0
+TrustingSays n s was left (Ok most) = (s ≤ limit) × Room (leaves_of (nodes_in n)) s was × TrustedReport n s was left most
+TrustingSays n s was left (Err e) =
+    (left ≡ was) × (((limit < s) × (e ≡ AboveFifteen)) ⊎ ((s ≤ limit) × (Room (leaves_of (nodes_in n)) s was → ⊥) × (e ≡ ReportShort)))

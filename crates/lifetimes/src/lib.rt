@@ -1,21 +1,17 @@
 #![tactic(auto)]
 // From which slab to which slab each leaf of a tree is needed, over all its dual cells, and how many leaves are needed at each slab. Ours: the Rust frees nothing.
-ghost use Rattle.std.specs.Prelude.{◌≡◌, ◌+◌, ◌*◌, ◌^◌, ◌<◌, ◌≤◌, length, take, replicate, slice_index};
+ghost use Rattle.std.specs.Prelude.{◌≡◌, ◌+◌, ◌*◌, ◌^◌, ◌<◌, ◌≤◌, length, take, replicate, slice_index, EachIndex};
 ghost use Rattle.morton.specs.Level.{limit};
-ghost use Rattle.tree.specs.Tree.{tree_of, Decides};
-ghost use Rattle.tree.specs.Down.{nodes_of};
+ghost use Rattle.tree.specs.Tree.{the_tree, Decides};
+ghost use Rattle.tree.specs.Down.{the_nodes};
 ghost use Rattle.vertices.specs.Walk.{spots_of};
 ghost use Rattle.vertices.specs.Cells.{places_of};
 ghost use Rattle.lifetimes.specs.Needed.{Room, reports_of, LifetimesSays};
 ghost use Rattle.lifetimes.specs.Trusted.{nodes_in, leaves_of, TrustingSays};
 ghost use Rattle.lifetimes.specs.Steps.{PutLeaf, Numbered, Ready, Finds, MeetingSays, PullSays, Widened, Widens, Prepared, AllUnpacked, Within, SpansLeft, Differs, SumsUp, most_in, Counted, ReportLeft};
 
-// The greatest number of leaves that are needed at one slab, or the number of the refusal.
-#[derive(Clone, Copy)]
-pub enum LifetimesAnswer {
-    Greatest(u32),
-    Refused(u32),
-}
+use refusals::Refusal;
+use tree::{Nodes, Tree};
 
 // The leaves of a cell, and its least and greatest slab.
 #[derive(Clone, Copy)]
@@ -48,36 +44,29 @@ fn put_leaf(first: &mut [u32], number: usize, slab: u32) -> usize
 }
 
 // Takes down the number of each leaf and its slab.
-fn number_leaves(
-    keys: &[u64],
-    firsts: &[u16],
-    nodes: usize,
-    exponent: u32,
-    first: &mut [u32],
-    last: &mut [u32],
-)
-    requires nodes_value { (nodes ≡ nodes_in (nodes_of keys.now firsts.now)) × (exponent ≤ limit) }
-    requires first_value { (first.old ≡ replicate (leaves_of nodes) 65535) × (last.old ≡ replicate (leaves_of nodes) 0) }
-    ensures { Prepared (nodes_of keys.now firsts.now) exponent first.new last.new }
+fn number_leaves(nodes: &Nodes, many: usize, exponent: u32, first: &mut [u32], last: &mut [u32])
+    requires many_value { (many ≡ nodes_in (the_nodes nodes.now)) × (exponent ≤ limit) }
+    requires first_value { (first.old ≡ replicate (leaves_of many) 65535) × (last.old ≡ replicate (leaves_of many) 0) }
+    ensures { Prepared (the_nodes nodes.now) exponent first.new last.new }
 {
     let mut number: usize = 0;
-    for place in 0..nodes {
+    for place in 0..many {
         last[place - place / 8] = 65536 * (number + place % 8 / 7) as u32;
-        if tree::first_at(firsts, place) == 0 {
-            number = put_leaf(first, number, slabs::slab_at(keys[place], exponent));
+        if nodes.first_at(place) == 0 {
+            number = put_leaf(first, number, slabs::slab_at(nodes.keys[place], exponent));
         }
     }
 }
 
 // The number of the leaf at a place, or the number of leaves or more where there is none.
-fn number_at(firsts: &[u16], nodes: usize, last: &[u32], place: usize) -> usize
-    requires { (length last.now ≡ leaves_of nodes) × Numbered firsts.now nodes last.now }
-    ensures { Finds firsts.now nodes place result }
+fn number_at(nodes: &Nodes, many: usize, last: &[u32], place: usize) -> usize
+    requires { (length last.now ≡ leaves_of many) × Numbered nodes.now.firsts.now many last.now }
+    ensures { Finds nodes.now.firsts.now many place result }
 {
-    if place >= nodes {
+    if place >= many {
         return last.len();
     }
-    if tree::first_at(firsts, place) != 0 {
+    if nodes.first_at(place) != 0 {
         return last.len();
     }
     (last[place - place / 8] / 65536) as usize - place % 8 / 7
@@ -87,22 +76,22 @@ fn number_at(firsts: &[u16], nodes: usize, last: &[u32], place: usize) -> usize
 
 // Which leaves a cell has, whose eight places stand in a table, and from which slab to which they lie.
 fn leaves_of_cell(
-    firsts: &[u16],
-    nodes: usize,
+    nodes: &Nodes,
+    many: usize,
     first: &[u32],
     last: &[u32],
     places: &[usize],
     at: usize,
 ) -> Meeting
-    requires ready { Ready firsts.now nodes first.now last.now }
+    requires ready { Ready nodes.now.firsts.now many first.now last.now }
     requires at_in_bounds { 8 * at + 8 ≤ length places.now }
-    ensures { MeetingSays firsts.now nodes first.now places.now at 8 result.numbers result.low result.high }
+    ensures { MeetingSays nodes.now.firsts.now many first.now places.now at 8 result.numbers result.low result.high }
 {
     let mut numbers = [0usize; 8];
     let mut low: u32 = 65535;
     let mut high: u32 = 0;
     for o in 0..8 {
-        let number = number_at(firsts, nodes, last, places[8 * at + o]);
+        let number = number_at(nodes, many, last, places[8 * at + o]);
         numbers[o] = number;
         if number < first.len() {
             let slab = first[number] / 65536;
@@ -138,27 +127,27 @@ fn pull_all(first: &mut [u32], last: &mut [u32], cell: Meeting)
 
 // Goes over some cells, whose eight places each stand in a table.
 fn widen(
-    firsts: &[u16],
-    nodes: usize,
+    nodes: &Nodes,
+    many: usize,
     first: &mut [u32],
     last: &mut [u32],
     places: &[usize],
     cells: usize,
 )
-    requires ready { Ready firsts.now nodes first.old last.old }
+    requires ready { Ready nodes.now.firsts.now many first.old last.old }
     requires cells_in_bounds { 8 * cells ≤ length places.now }
-    ensures { Widens firsts.now nodes (take (8 * cells) places.now) first.old last.old first.new last.new }
+    ensures { Widens nodes.now.firsts.now many (take (8 * cells) places.now) first.old last.old first.new last.new }
 {
     for at in 0..cells {
-        let cell = leaves_of_cell(firsts, nodes, first, last, places, at);
+        let cell = leaves_of_cell(nodes, many, first, last, places, at);
         pull_all(first, last, cell);
     }
 }
 
 // Goes over the cells of all vertices, 64 at a time: so many that beginning anew at the root costs little, and so few that they fit on the stack.
-fn go_over(keys: &[u64], firsts: &[u16], nodes: usize, first: &mut [u32], last: &mut [u32])
-    requires { Ready firsts.now nodes first.old last.old }
-    ensures { Widens firsts.now nodes (places_of (nodes_of keys.now firsts.now) (spots_of (nodes_of keys.now firsts.now)))
+fn go_over(nodes: &Nodes, many: usize, first: &mut [u32], last: &mut [u32])
+    requires { Ready nodes.now.firsts.now many first.old last.old }
+    ensures { Widens nodes.now.firsts.now many (places_of (the_nodes nodes.now) (spots_of (the_nodes nodes.now)))
         first.old last.old first.new last.new }
 {
     let mut vertices = [0u64; 64];
@@ -166,15 +155,8 @@ fn go_over(keys: &[u64], firsts: &[u16], nodes: usize, first: &mut [u32], last: 
     let mut places = [0usize; 512];
     let mut from: u64 = 0;
     loop {
-        let came = vertices::cells_trusting(
-            keys,
-            firsts,
-            from,
-            &mut vertices,
-            &mut levels,
-            &mut places,
-        );
-        widen(firsts, nodes, first, last, &places, came);
+        let came = vertices::cells_trusting(nodes, from, &mut vertices, &mut levels, &mut places);
+        widen(nodes, many, first, last, &places, came);
         if came < 64 {
             return;
         }
@@ -258,40 +240,32 @@ fn count(first: &[u32], last: &[u32], needed: &mut [u32]) -> u32
 // ---- the call
 
 // The spans, in tables that are as long as there are leaves.
-fn spans(
-    keys: &[u64],
-    firsts: &[u16],
-    nodes: usize,
-    exponent: u32,
-    first: &mut [u32],
-    last: &mut [u32],
-)
-    requires nodes_value { (nodes ≡ nodes_in (nodes_of keys.now firsts.now)) × (exponent ≤ limit) }
-    requires first_len { (length first.old ≡ leaves_of nodes) × (length last.old ≡ leaves_of nodes) }
-    ensures { SpansLeft (nodes_of keys.now firsts.now) exponent first.new last.new }
+fn spans(nodes: &Nodes, many: usize, exponent: u32, first: &mut [u32], last: &mut [u32])
+    requires many_value { (many ≡ nodes_in (the_nodes nodes.now)) × (exponent ≤ limit) }
+    requires first_len { (length first.old ≡ leaves_of many) × (length last.old ≡ leaves_of many) }
+    ensures { SpansLeft (the_nodes nodes.now) exponent first.new last.new }
 {
     first.fill(65535);
     last.fill(0);
-    number_leaves(keys, firsts, nodes, exponent, first, last);
-    go_over(keys, firsts, nodes, first, last);
+    number_leaves(nodes, many, exponent, first, last);
+    go_over(nodes, many, first, last);
     unpack(first, last);
 }
 
 // The whole report, in tables that are as long as there are leaves and slabs.
 fn report(
-    keys: &[u64],
-    firsts: &[u16],
-    nodes: usize,
+    nodes: &Nodes,
+    many: usize,
     exponent: u32,
     first: &mut [u32],
     last: &mut [u32],
     needed: &mut [u32],
 ) -> u32
-    requires nodes_value { (nodes ≡ nodes_in (nodes_of keys.now firsts.now)) × (exponent ≤ limit) }
-    requires first_len { (length first.old ≡ leaves_of nodes) × (length last.old ≡ leaves_of nodes) × (length needed.old ≡ 2 ^ exponent) }
-    ensures { ReportLeft (nodes_of keys.now firsts.now) exponent first.new last.new needed.new result }
+    requires many_value { (many ≡ nodes_in (the_nodes nodes.now)) × (exponent ≤ limit) }
+    requires first_len { (length first.old ≡ leaves_of many) × (length last.old ≡ leaves_of many) × (length needed.old ≡ 2 ^ exponent) }
+    ensures { ReportLeft (the_nodes nodes.now) exponent first.new last.new needed.new result }
 {
-    spans(keys, firsts, nodes, exponent, first, last);
+    spans(nodes, many, exponent, first, last);
     count(first, last, needed)
 }
 
@@ -305,55 +279,55 @@ fn have_room(leaves: usize, exponent: u32, first: &[u32], last: &[u32], needed: 
 
 // The report, for one who knows that the tree is sound; of other tables, what the same walk comes to.
 pub fn lifetimes_trusting(
-    keys: &[u64],
-    firsts: &[u16],
+    nodes: &Nodes,
     exponent: u32,
     first: &mut [u32],
     last: &mut [u32],
     needed: &mut [u32],
-) -> LifetimesAnswer
-    ensures { TrustingSays (nodes_of keys.now firsts.now) exponent (reports_of first.old last.old needed.old)
+) -> Result<u32, Refusal>
+    ensures { TrustingSays (the_nodes nodes.now) exponent (reports_of first.old last.old needed.old)
         (reports_of first.new last.new needed.new) result }
 {
     if exponent > morton::LIMIT {
-        return LifetimesAnswer::Refused(5);
+        return Err(Refusal::AboveFifteen);
     }
     // No sound tree has more nodes, so no more are looked at.
-    let nodes = keys.len().min(65537);
-    let leaves = leaves_of(nodes);
+    let many = nodes.keys.len().min(65537);
+    let leaves = leaves_of(many);
     if !have_room(leaves, exponent, first, last, needed) {
-        return LifetimesAnswer::Refused(17);
+        return Err(Refusal::ReportShort);
     }
     let slabs = 1 << exponent;
-    let most = report(
-        keys,
-        firsts,
+    Ok(report(
         nodes,
+        many,
         exponent,
         &mut first[..leaves],
         &mut last[..leaves],
         &mut needed[..slabs],
-    );
-    LifetimesAnswer::Greatest(most)
+    ))
 }
+
+// Does nothing: of a slice in a struct no proof knows how large its numbers are, of a parameter it does.
+fn have_16_bits(firsts: &[u16])
+    ensures { EachIndex firsts.now (λ i. slice_index firsts.now i < 2 ^ 16) }
+{}
 
 // For each leaf of a sound tree, in the order of the leaf table, the first and the last slab at which a dual cell of a listed vertex needs it; for each of the 2^exponent
 // slabs how many leaves are needed at it; and the greatest such number.
 pub fn lifetimes(
-    keys: &[u64],
-    distances: &[f32],
-    firsts: &[u16],
-    leaves: &[u64],
+    tree: &Tree,
     exponent: u32,
     first: &mut [u32],
     last: &mut [u32],
     needed: &mut [u32],
-) -> LifetimesAnswer
-    ensures { LifetimesSays (tree_of keys.now distances.now firsts.now leaves.now) exponent
+) -> Result<u32, Refusal>
+    ensures { LifetimesSays (the_tree tree.now) exponent
         (reports_of first.old last.old needed.old) (reports_of first.new last.new needed.new) result }
 {
-    if !tree::sound(keys, distances, firsts, leaves) {
-        return LifetimesAnswer::Refused(11);
+    if !tree.sound() {
+        return Err(Refusal::NotSound);
     }
-    lifetimes_trusting(keys, firsts, exponent, first, last, needed)
+    have_16_bits(tree.nodes.firsts);
+    lifetimes_trusting(&tree.nodes, exponent, first, last, needed)
 }

@@ -1,5 +1,5 @@
 -- `go_over` meets its contract: batch after batch, until one isn't full. Assumes nothing.
-use Rattle.std.proofs.Common.{◌*◌, ◌≤◌, refl, ◌∙◌, arith}
+use Rattle.std.proofs.Common.{refl, ◌∙◌, arith}
 use Rattle.lifetimes.proofs.Going.{going_none, going_all, at_most_64, next_fits, going_less, going_more}
 use Rattle.lifetimes.proofs.go_over.Goals as goal
 

@@ -3,4 +3,4 @@ use Rattle.lifetimes.specs.Steps.{MeetingSays}
 use Rattle.lifetimes.proofs.leaves_of_cell.Given as goal
 
 abbrev pub invariant-loop-o : goal.invariant-loop-o
-invariant-loop-o l = MeetingSays l.firsts l.nodes l.first l.places l.at l.o l.numbers l.low l.high
+invariant-loop-o l = MeetingSays l.nodes.firsts.now l.many l.first l.places l.at l.o l.numbers l.low l.high

@@ -4,4 +4,7 @@ use Rattle.lifetimes.proofs.Joining.{trusting_lifetimes}
 use Rattle.lifetimes.proofs.lifetimes.Goals as goal
 
 pub returns : goal.returns
-returns c = let a = c.sound in trusting_lifetimes _ (said a.result _ (c.if-not-sound.false) a.ensures) (λ i h. (c.shared_slice_known-3-1.given i).fits) _ _ _ c.lifetimes_trusting.result c.lifetimes_trusting.ensures
+returns c =
+    let a = c.sound in
+    trusting_lifetimes _ (said a.result _ c.if-not-sound.false a.ensures) c.have_16_bits.ensures _ _ _
+    c.lifetimes_trusting.result c.lifetimes_trusting.ensures

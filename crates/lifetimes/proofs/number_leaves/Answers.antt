@@ -9,7 +9,7 @@ loop-place-init c = numbered_none _ _ _ _ _ _ c.requires.first_value.0 c.require
 
 pub put_leaf-number-requires : goal.put_leaf-number-requires
 put_leaf-number-requires c =
-    (omega (arith, c.loop-place.invariant.number_is, c.loop-place.invariant.first_long), slab_at_small _ _ _ c.requires.nodes_value.1 c.slab_at.ensures)
+    (omega (arith, c.loop-place.invariant.number_is, c.loop-place.invariant.first_long), slab_at_small _ _ _ c.requires.many_value.1 c.slab_at.ensures)
 
 pub loop-place-preserved : goal.loop-place-preserved
 loop-place-preserved c =
@@ -18,7 +18,7 @@ loop-place-preserved c =
       | then-first_at-eq0 w ↦
           rw (w.first-is, w.number-is)
           (numbered_leaf _ _ _ _ k.place k.number _ _ k.invariant c.loop-place-test.true (sym c.first_at.ensures ∙ w.if-first_at-eq0.true) _ _ _
-          (slab_at_is _ _ _ c.requires.nodes_value.1 w.slab_at.ensures) w.put_leaf-number.ensures)
+          (slab_at_is _ _ _ c.requires.many_value.1 w.slab_at.ensures) w.put_leaf-number.ensures)
       | else-first_at-eq0 w ↦
           rw (w.first-is, w.number-is)
           (numbered_other _ _ _ _ k.place k.number _ _ k.invariant c.loop-place-test.true (λ e. w.if-first_at-eq0.false (c.first_at.ensures ∙ e)))

@@ -3,4 +3,4 @@ use Rattle.lifetimes.proofs.Numbers.{NumberedTo}
 use Rattle.lifetimes.proofs.number_leaves.Given as goal
 
 abbrev pub invariant-loop-place : goal.invariant-loop-place
-invariant-loop-place l = NumberedTo l.firsts l.keys l.nodes l.exponent l.place l.number l.first l.last
+invariant-loop-place l = NumberedTo l.nodes.firsts.now l.nodes.keys.now l.many l.exponent l.place l.number l.first l.last

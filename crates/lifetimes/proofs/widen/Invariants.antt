@@ -4,4 +4,4 @@ use Rattle.lifetimes.specs.Steps.{Widens}
 use Rattle.lifetimes.proofs.widen.Given as goal
 
 abbrev pub invariant-loop-at : goal.invariant-loop-at
-invariant-loop-at l = Widens l.firsts l.nodes (take (8 * l.at) l.places) l.initial.first l.initial.last l.first l.last
+invariant-loop-at l = Widens l.nodes.firsts.now l.many (take (8 * l.at) l.places) l.initial.first l.initial.last l.first l.last
