@@ -1,4 +1,3 @@
 -- Laws of what `mittenhelm_lifetimes` promises.
-pub mod Handing
 pub mod Same
 pub mod One

@@ -1,26 +1,24 @@
 -- One answer only: of each exported call, what is returned, the out parameter and the tables are settled by its promise. Assumes nothing.
 use Prim.Native.Nat.{ℕ}
 use mathlib.Core.Path.{◌≡◌, subst}
-use Rattle.morton.proofs.One.{OnlyOne, both}
+use Rattle.std.specs.Prelude.{Result}
+use Rattle.morton.proofs.One.{OnlyOne}
+use Rattle.refusals.specs.declared.Refusal.{Refusal}
+use Rattle.refusals.specs.Refusals.{Hands}
+use Rattle.refusals.proofs.One.{hand_one}
 use Rattle.tree.specs.Tree.{Tree}
 use Rattle.tree.specs.Down.{Nodes}
-use Rattle.lifetimes.specs.declared.LifetimesAnswer.{LifetimesAnswer}
-use Rattle.lifetimes.specs.declared.LifetimesAnswer.TheVariants.{Greatest, Refused}
 use Rattle.lifetimes.specs.Needed.{Reports, LifetimesSays}
 use Rattle.lifetimes.specs.Trusted.{TrustingSays}
 use Rattle.lifetimes.proofs.One.{lifetimes_one as lifetimes-answer-one, lifetimes_trusting_one as trusting-answer-one}
-use Rattle.mittenhelm_lifetimes.specs.Most.{HandsMost, HandsLifetimes, HandsTrustedLifetimes}
-
-pub hand_most_one : (a : LifetimesAnswer) (was : ℕ) → OnlyOne (λ (r : ℕ × ℕ). HandsMost a was r.0 r.1)
-hand_most_one (Greatest most) was = both 0 most
-hand_most_one (Refused k) was = both k was
+use Rattle.mittenhelm_lifetimes.specs.Most.{HandsLifetimes, HandsTrustedLifetimes}
 
 -- what is handed over of one answer with its tables
-reported_on : (says : Reports → LifetimesAnswer → Type 0) → OnlyOne (λ (o : Reports × LifetimesAnswer). says o.0 o.1) → (was : ℕ)
-    → OnlyOne (λ (r : Reports × (ℕ × ℕ)). (a : LifetimesAnswer) × says r.0 a × HandsMost a was r.1.0 r.1.1)
+reported_on : (says : Reports → Result ℕ Refusal → Type 0) → OnlyOne (λ (o : Reports × Result ℕ Refusal). says o.0 o.1) → (was : ℕ)
+    → OnlyOne (λ (r : Reports × (ℕ × ℕ)). (a : Result ℕ Refusal) × says r.0 a × Hands a was r.1.0 r.1.1)
 reported_on says answer was r s p q =
-    let e : ◌≡◌ {A = Reports × LifetimesAnswer} (r.0, p.0) (s.0, q.0) = answer (r.0, p.0) (s.0, q.0) p.1 q.1 in
-    let h : r.1 ≡ s.1 = hand_most_one q.0 was r.1 s.1 (subst (λ (o : Reports × LifetimesAnswer). HandsMost o.1 was r.1.0 r.1.1) e p.2) q.2 in
+    let e : ◌≡◌ {A = Reports × Result ℕ Refusal} (r.0, p.0) (s.0, q.0) = answer (r.0, p.0) (s.0, q.0) p.1 q.1 in
+    let h : r.1 ≡ s.1 = hand_one q.0 was r.1 s.1 (subst (λ (o : Reports × Result ℕ Refusal). Hands o.1 was r.1.0 r.1.1) e p.2) q.2 in
     λ i. ((e i).0, h i)
 
 pub lifetimes_one : (t : Tree) (s was : ℕ) (before : Reports)

@@ -3,22 +3,9 @@
 ghost use Rattle.tree.specs.Tree.{tree_of};
 ghost use Rattle.tree.specs.Down.{nodes_of};
 ghost use Rattle.lifetimes.specs.Needed.{reports_of};
-ghost use Rattle.mittenhelm_lifetimes.specs.Most.{HandsMost, HandsLifetimes, HandsTrustedLifetimes};
+ghost use Rattle.mittenhelm_lifetimes.specs.Most.{HandsLifetimes, HandsTrustedLifetimes};
 
-use lifetimes::LifetimesAnswer;
-
-// Hands a report over: the greatest number to the place, or its refusal.
-fn hand_most(answer: LifetimesAnswer, greatest: &mut u32) -> u32
-    ensures { HandsMost answer greatest.old result greatest.new }
-{
-    match answer {
-        LifetimesAnswer::Greatest(most) => {
-            *greatest = most;
-            0
-        }
-        LifetimesAnswer::Refused(number) => number,
-    }
-}
+use tree::{Nodes, Tree};
 
 pub fn mittenhelm_lifetimes(
     keys: &[u64],
@@ -35,10 +22,13 @@ pub fn mittenhelm_lifetimes(
         (reports_of first.old last.old needed.old) (reports_of first.new last.new needed.new)
         greatest.old result greatest.new }
 {
-    let answer = lifetimes::lifetimes(
-        keys, distances, firsts, leaves, exponent, first, last, needed,
-    );
-    hand_most(answer, greatest)
+    let tree = Tree {
+        nodes: Nodes { keys, firsts },
+        distances,
+        leaves,
+    };
+    let answer = lifetimes::lifetimes(&tree, exponent, first, last, needed);
+    refusals::hand(answer, greatest)
 }
 
 pub fn mittenhelm_lifetimes_trusting(
@@ -54,6 +44,7 @@ pub fn mittenhelm_lifetimes_trusting(
         (reports_of first.old last.old needed.old) (reports_of first.new last.new needed.new)
         greatest.old result greatest.new }
 {
-    let answer = lifetimes::lifetimes_trusting(keys, firsts, exponent, first, last, needed);
-    hand_most(answer, greatest)
+    let nodes = Nodes { keys, firsts };
+    let answer = lifetimes::lifetimes_trusting(&nodes, exponent, first, last, needed);
+    refusals::hand(answer, greatest)
 }
