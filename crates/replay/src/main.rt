@@ -1,33 +1,16 @@
 #![tactic(auto)]
 // Replays the sample's lines of key operations and of builds, and counts the lines that agree. The sample is the oracle's answers,
 // written by tools/sample.
-ghost use Rattle.std.specs.Prelude.{◌≡◌, min};
-
 use build::{Answer, Lengths, Request, State};
 use morton::{CentreAnswer, Key, KeyAnswer, SizeAnswer, Vec3};
-use sample::{END, Line, Tally};
+use sample::{Line, Op};
 use std::io;
-use std::io::{ErrorKind, Read};
-
-fn same_bool(answer: bool, x: u64) -> bool {
-    if answer { x == 1 } else { x == 0 }
-}
-
-fn same_float(d: f32, l: Line) -> bool {
-    if l.status != 0 {
-        return false;
-    }
-    sample::is_float(d, l.x)
-}
 
 fn same_point(p: Vec3, l: Line) -> bool {
-    if !same_float(p.x, l) {
-        return false;
-    }
-    if !sample::is_float(p.y, l.y) {
-        return false;
-    }
-    sample::is_float(p.z, l.z)
+    l.status == 0
+        && sample::is_float(p.x, l.x)
+        && sample::is_float(p.y, l.y)
+        && sample::is_float(p.z, l.z)
 }
 
 fn same_key(answer: KeyAnswer, l: Line) -> bool {
@@ -39,7 +22,7 @@ fn same_key(answer: KeyAnswer, l: Line) -> bool {
 
 fn same_size(answer: SizeAnswer, l: Line) -> bool {
     match answer {
-        SizeAnswer::Is(h) => same_float(h, l),
+        SizeAnswer::Is(h) => l.status == 0 && sample::is_float(h, l.x),
         SizeAnswer::Refused(number) => number == l.status,
     }
 }
@@ -51,305 +34,192 @@ fn same_centre(answer: CentreAnswer, l: Line) -> bool {
     }
 }
 
-fn cell_agrees(l: Line) -> bool {
+// A line of keys.
+fn key_agrees(op: Op, l: Line) -> bool {
     let k = Key { code: l.a };
-    let op = l.op;
     match op {
-        3 => same_key(k.child(l.low_b), l),
-        6 => same_size(k.half_size(), l),
-        7 => same_centre(k.centre(), l),
-        8 => same_key(k.vertex(l.low_b, l.low_c), l),
-        10 => same_key(k.side(l.low_b, l.low_c), l),
+        Op::Level => u64::from(k.level()) == l.x,
+        Op::IsCell => u64::from(k.is_cell()) == l.x,
+        Op::Parent => k.parent().code == l.x,
+        Op::Child => same_key(k.child(l.low_b), l),
+        Op::Add => k.add(Key { code: l.b }).code == l.x,
+        Op::Sub => k.sub(Key { code: l.b }).code == l.x,
+        Op::HalfSize => same_size(k.half_size(), l),
+        Op::Centre => same_centre(k.centre(), l),
+        Op::Vertex => same_key(k.vertex(l.low_b, l.low_c), l),
+        Op::IsInner => u64::from(k.is_inner(l.low_b)) == l.x,
+        Op::Side => same_key(k.side(l.low_b, l.low_c), l),
+        Op::ShouldRefine => {
+            u64::from(morton::should_refine(l.low_b, l.low_c, sample::float(l.a))) == l.x
+        }
         _ => false,
     }
 }
 
-// A line of keys, of a call that has no refusal or else of one that has.
-fn agrees(l: Line) -> bool {
-    let k = Key { code: l.a };
-    let op = l.op;
-    match op {
-        0 => k.level() as u64 == l.x,
-        1 => same_bool(k.is_cell(), l.x),
-        2 => k.parent().code == l.x,
-        4 => k.add(Key { code: l.b }).code == l.x,
-        5 => k.sub(Key { code: l.b }).code == l.x,
-        9 => same_bool(k.is_inner(l.low_b), l.x),
-        11 => same_bool(
-            morton::should_refine(l.low_b, l.low_c, sample::float(l.a)),
-            l.x,
-        ),
-        _ => cell_agrees(l),
-    }
-}
-
-// ---- builds: `start` begins one over tables that are all 0, the queue as long as A says above its bound and the others as B says;
-// `distance` goes on with it.
-
-// The state of the build at hand, and whether the last line agreed.
-#[derive(Clone, Copy)]
-struct Step {
-    state: State,
-    same: bool,
-}
-
 fn same_request(r: Request, l: Line) -> bool {
-    if !sample::is_float(r.x, l.y) {
-        return false;
-    }
-    if !sample::is_float(r.y, l.y >> 32) {
-        return false;
-    }
-    if !sample::is_float(r.z, l.z) {
-        return false;
-    }
-    if !sample::is_float(r.half, l.z >> 32) {
-        return false;
-    }
-    sample::first_is(l, r.key)
+    sample::is_float(r.x, l.y)
+        && sample::is_float(r.y, l.y >> 32)
+        && sample::is_float(r.z, l.z)
+        && sample::is_float(r.half, l.z >> 32)
+        && sample::first_is(l, r.key)
 }
 
-// A build that is finished asks for the key 0.
-fn same_answer(answer: Answer, was: State, l: Line) -> Step {
-    match answer {
-        Answer::Ask(r, s) => Step {
-            state: s,
-            same: same_request(r, l),
-        },
-        Answer::Finished(s) => Step {
-            state: s,
-            same: sample::first_is(l, 0),
-        },
-        Answer::Refused(number) => Step {
-            state: was,
-            same: number == l.status,
-        },
-    }
+// The tables of the build at hand, and its state.
+#[derive(Drop)]
+struct Build {
+    keys: [u64; 1024],
+    distances: [f32; 1024],
+    firsts: [u16; 1024],
+    leaves: [u64; 1024],
+    queue: [u64; 1024],
+    state: State,
 }
 
-fn at_most(n: usize, most: usize) -> usize
-    ensures { result ≡ min n most }
-{
-    if n < most { n } else { most }
-}
-
-fn start(
-    l: Line,
-    was: State,
-    keys: &[u64],
-    distances: &[f32],
-    firsts: &[u16],
-    leaves: &[u64],
-    queue: &[u64],
-) -> Step {
-    let a = sample::length_at(l.b, 0, keys.len());
-    let b = sample::length_at(l.b, 1, distances.len());
-    let c = sample::length_at(l.b, 2, firsts.len());
-    let d = sample::length_at(l.b, 3, leaves.len());
-    let e = sample::length_at(l.a, 2, queue.len());
-    let answer = build::start(
-        (l.a % 0x1_0000_0000) as u32,
-        &keys[..a],
-        &distances[..b],
-        &firsts[..c],
-        &leaves[..d],
-        &queue[..e],
-    );
-    same_answer(answer, was, l)
-}
-
-fn distance(
-    l: Line,
-    s: State,
-    keys: &mut [u64],
-    distances: &mut [f32],
-    firsts: &mut [u16],
-    leaves: &mut [u64],
-    queue: &mut [u64],
-) -> Step {
-    let z = s.lengths;
-    let a = at_most(z.keys, keys.len());
-    let b = at_most(z.distances, distances.len());
-    let c = at_most(z.firsts, firsts.len());
-    let d = at_most(z.leaves, leaves.len());
-    let e = at_most(z.queue, queue.len());
-    let answer = build::distance(
-        s,
-        &mut keys[..a],
-        &mut distances[..b],
-        &mut firsts[..c],
-        &mut leaves[..d],
-        &mut queue[..e],
-        sample::float(l.a),
-    );
-    same_answer(answer, s, l)
-}
-
-fn key_at(table: &[u64], at: usize) -> u64 {
-    if at < table.len() { table[at] } else { 0 }
-}
-
-fn distance_at(table: &[f32], at: usize) -> f32 {
-    if at < table.len() { table[at] } else { 0.0 }
-}
-
-fn first_at(table: &[u16], at: usize) -> u16 {
-    if at < table.len() { table[at] } else { 0 }
-}
-
-fn same_keys(l: Line, keys: &[u64], leaves: &[u64], queue: &[u64]) -> bool {
-    let at = l.a as usize;
-    if key_at(keys, at) != l.x {
-        return false;
-    }
-    if key_at(leaves, at) != l.y {
-        return false;
-    }
-    key_at(queue, at) == l.z
-}
-
-fn same_node(l: Line, distances: &[f32], firsts: &[u16]) -> bool {
-    let at = l.a as usize;
-    if !sample::is_float(distance_at(distances, at), l.x) {
-        return false;
-    }
-    first_at(firsts, at) as u64 == l.y
-}
-
-// A line that changes no table: of a place in them, or of keys.
-fn reads(
-    l: Line,
-    keys: &[u64],
-    distances: &[f32],
-    firsts: &[u16],
-    leaves: &[u64],
-    queue: &[u64],
-) -> bool {
-    let op = l.op;
-    match op {
-        14 => same_keys(l, keys, leaves, queue),
-        15 => same_node(l, distances, firsts),
-        _ => agrees(l),
-    }
-}
-
-// ---- the whole sample
-
-const START: usize = 12;
-
-const DISTANCE: usize = 13;
-
-// Where the input has ended, the text is no line.
-fn read_line(input: &mut impl Read) -> io::Result<Line> {
-    let mut text = [0u8; 108];
-    if let Err(e) = input.read_exact(&mut text) {
-        if e.kind() != ErrorKind::UnexpectedEof {
-            return Err(e);
+impl Build {
+    fn new() -> Build {
+        Build {
+            keys: [0; 1024],
+            distances: [0.0; 1024],
+            firsts: [0; 1024],
+            leaves: [0; 1024],
+            queue: [0; 1024],
+            state: State {
+                bound: 0,
+                nodes: 0,
+                leaves: 0,
+                asked: 0,
+                lengths: Lengths {
+                    keys: 0,
+                    distances: 0,
+                    firsts: 0,
+                    leaves: 0,
+                    queue: 0,
+                },
+            },
         }
-        return Ok(sample::parse([0u8; 108]));
     }
-    Ok(sample::parse(text))
-}
 
-fn idle() -> State {
-    State {
-        bound: 0,
-        nodes: 0,
-        leaves: 0,
-        asked: 0,
-        lengths: Lengths {
-            keys: 0,
-            distances: 0,
-            firsts: 0,
-            leaves: 0,
-            queue: 0,
-        },
-    }
-}
-
-fn replay(input: &mut impl Read) -> io::Result<Tally> {
-    let mut keys = [0u64; 1024];
-    let mut distances = [0.0f32; 1024];
-    let mut firsts = [0u16; 1024];
-    let mut leaves = [0u64; 1024];
-    let mut queue = [0u64; 1024];
-    let mut state = idle();
-    let agree = [0u64; 24];
-    let mut tally = Tally { agree, differ: 0 };
-    for _ in 0..100_000 {
-        let l = read_line(input)?;
-        if l.op == END {
-            return Ok(tally);
+    // A build that is finished asks for the key 0; one that is refused stays as it was.
+    fn goes_on(&mut self, answer: Answer, l: Line) -> bool {
+        match answer {
+            Answer::Ask(r, s) => {
+                self.state = s;
+                same_request(r, l)
+            }
+            Answer::Finished(s) => {
+                self.state = s;
+                sample::first_is(l, 0)
+            }
+            Answer::Refused(number) => number == l.status,
         }
-        let same = if l.op == START {
-            keys = [0u64; 1024];
-            distances = [0.0f32; 1024];
-            firsts = [0u16; 1024];
-            leaves = [0u64; 1024];
-            queue = [0u64; 1024];
-            let step = start(l, state, &keys, &distances, &firsts, &leaves, &queue);
-            state = step.state;
-            step.same
-        } else if l.op == DISTANCE {
-            let step = distance(
-                l,
-                state,
-                &mut keys,
-                &mut distances,
-                &mut firsts,
-                &mut leaves,
-                &mut queue,
-            );
-            state = step.state;
-            step.same
-        } else {
-            reads(l, &keys, &distances, &firsts, &leaves, &queue)
+    }
+
+    // Begins over tables that are all 0, the queue as long as A says above its bound and the others as B says.
+    fn start(&mut self, l: Line) -> bool {
+        self.keys = [0; 1024];
+        self.distances = [0.0; 1024];
+        self.firsts = [0; 1024];
+        self.leaves = [0; 1024];
+        self.queue = [0; 1024];
+        let a = sample::length_at(l.b, 0, self.keys.len());
+        let b = sample::length_at(l.b, 1, self.distances.len());
+        let c = sample::length_at(l.b, 2, self.firsts.len());
+        let d = sample::length_at(l.b, 3, self.leaves.len());
+        let e = sample::length_at(l.a, 2, self.queue.len());
+        let answer = build::start(
+            (l.a % 0x1_0000_0000) as u32,
+            &self.keys[..a],
+            &self.distances[..b],
+            &self.firsts[..c],
+            &self.leaves[..d],
+            &self.queue[..e],
+        );
+        self.goes_on(answer, l)
+    }
+
+    fn distance(&mut self, l: Line) -> bool {
+        let Build {
+            keys,
+            distances,
+            firsts,
+            leaves,
+            queue,
+            state,
+        } = self;
+        let keys: &mut [u64] = keys;
+        let distances: &mut [f32] = distances;
+        let firsts: &mut [u16] = firsts;
+        let leaves: &mut [u64] = leaves;
+        let queue: &mut [u64] = queue;
+        let lengths = state.lengths;
+        let a = lengths.keys.min(keys.len());
+        let b = lengths.distances.min(distances.len());
+        let c = lengths.firsts.min(firsts.len());
+        let d = lengths.leaves.min(leaves.len());
+        let e = lengths.queue.min(queue.len());
+        let answer = build::distance(
+            *state,
+            &mut keys[..a],
+            &mut distances[..b],
+            &mut firsts[..c],
+            &mut leaves[..d],
+            &mut queue[..e],
+            sample::float(l.a),
+        );
+        self.goes_on(answer, l)
+    }
+
+    fn has_keys(&self, l: Line) -> bool {
+        let at = l.a as usize;
+        self.keys.get(at).copied().unwrap_or(0) == l.x
+            && self.leaves.get(at).copied().unwrap_or(0) == l.y
+            && self.queue.get(at).copied().unwrap_or(0) == l.z
+    }
+
+    fn has_node(&self, l: Line) -> bool {
+        let at = l.a as usize;
+        let distance = self.distances.get(at).copied().unwrap_or(0.0);
+        let first = self.firsts.get(at).copied().unwrap_or(0);
+        sample::is_float(distance, l.x) && u64::from(first) == l.y
+    }
+
+    fn agrees(&mut self, l: Line) -> bool {
+        let Some(op) = Op::of(l.op) else {
+            return false;
         };
-        tally = sample::counted(tally, l.op, same);
+        match op {
+            Op::Start => self.start(l),
+            Op::Distance => self.distance(l),
+            Op::KeysAt => self.has_keys(l),
+            Op::NodeAt => self.has_node(l),
+            _ => key_agrees(op, l),
+        }
     }
-    Ok(tally)
-}
-
-fn print_count(rt: &impl Print, n: u64) -> io::Result<()> {
-    println!(rt; "{n}")
-}
-
-// A call's name and how many of its lines agreed.
-fn print(rt: &impl Print, name: &[u8], agree: [u64; 24], op: usize) -> io::Result<()> {
-    rt.write_all(name)?;
-    if op < 24 {
-        print_count(rt, agree[op])?;
-    }
-    Ok(())
-}
-
-fn show_keys(rt: &impl Print, agree: [u64; 24]) -> io::Result<()> {
-    print(rt, b"level ", agree, 0)?;
-    print(rt, b"is_cell ", agree, 1)?;
-    print(rt, b"parent ", agree, 2)?;
-    print(rt, b"child ", agree, 3)?;
-    print(rt, b"add ", agree, 4)?;
-    print(rt, b"sub ", agree, 5)?;
-    print(rt, b"half_size ", agree, 6)?;
-    print(rt, b"centre ", agree, 7)?;
-    print(rt, b"vertex ", agree, 8)?;
-    print(rt, b"is_inner ", agree, 9)?;
-    print(rt, b"side ", agree, 10)?;
-    print(rt, b"should_refine ", agree, 11)
-}
-
-fn show_builds(rt: &impl Print, agree: [u64; 24]) -> io::Result<()> {
-    print(rt, b"start ", agree, 12)?;
-    print(rt, b"distance ", agree, 13)?;
-    print(rt, b"keys at a place ", agree, 14)?;
-    print(rt, b"distance at a place ", agree, 15)
 }
 
 fn main(rt: HostRuntime) -> io::Result<()> {
-    let t = replay(&mut rt.stdin())?;
-    let agree = t.agree;
-    show_keys(&rt, agree)?;
-    show_builds(&rt, agree)?;
-    rt.write_all(b"differ ")?;
-    print_count(&rt, t.differ)
+    let mut build = Build::new();
+    let tally = sample::replay(&mut rt.stdin(), |l| build.agrees(l))?;
+    let mut output = rt.stdout();
+    for (name, op) in [
+        ("level", Op::Level),
+        ("is_cell", Op::IsCell),
+        ("parent", Op::Parent),
+        ("child", Op::Child),
+        ("add", Op::Add),
+        ("sub", Op::Sub),
+        ("half_size", Op::HalfSize),
+        ("centre", Op::Centre),
+        ("vertex", Op::Vertex),
+        ("is_inner", Op::IsInner),
+        ("side", Op::Side),
+        ("should_refine", Op::ShouldRefine),
+        ("start", Op::Start),
+        ("distance", Op::Distance),
+        ("keys at a place", Op::KeysAt),
+        ("distance at a place", Op::NodeAt),
+    ] {
+        sample::show(&mut output, name, tally.agreeing(op))?;
+    }
+    sample::show(&mut output, "differ", tally.differ)
 }

@@ -1,30 +1,12 @@
--- How lines are counted, by the tests that lead there. Assumes nothing.
-use Rattle.std.proofs.Common.{◌≡◌, ℕ, ◌+◌, ◌%◌, ◌^◌, ◌<◌, ◌≤◌, Bool, true, false, not, ◌&&◌, eqb, get_or, set, sym, refl, ap, ◌∙◌, le-ltb, lt-ltb, eqb-true}
+-- What is counted, and what a line that agrees means, read for themselves. Assumes nothing.
+use Rattle.std.proofs.Common.{◌≡◌, ℕ, ◌+◌, ◌%◌, ◌^◌, Bool, true, false, ◌&&◌, eqb, sym, refl, ap, ◌∙◌, eqb-true}
 use mathlib.Core.Bool.{false≢true}
-use borrow.Author.Tests.{not-true, not-false}
 use lib.Ieee.{Float, binary32, of_bits, to_bits}
 use Rattle.sample.specs.declared.Line.{Line}
 use Rattle.sample.specs.declared.Tally.{Tally}
-use Rattle.sample.specs.Count.{differing_of, counted_of}
+use Rattle.sample.specs.Count.{counted_of}
 use Rattle.sample.specs.Text.{first_is}
 use Rattle.sample.specs.Word.{float_of, is_float}
-
-pub one_more : (t : Tally) (n : ℕ) → n ≡ (t.differ + 1) % 2 ^ 64 → ◌≡◌ {A = Tally} (record { agree = t.agree; differ = n }) (differing_of t)
-one_more t n e = rw e refl
-
-pub not_same : (t r : Tally) (op : ℕ) (same : Bool) → r ≡ differing_of t → not same ≡ true → r ≡ counted_of t op same
-not_same t r op same e h = rw (not-true same h) e
-
-pub no_call : (t r : Tally) (op : ℕ) (same : Bool) → r ≡ differing_of t → not same ≡ false → 24 ≤ op → r ≡ counted_of t op same
-no_call t r op same e h l = rw (not-false same h, le-ltb op 24 l) e
-
-pub agreed : (t : Tally) (op n : ℕ) (same : Bool)
-    → n ≡ (get_or t.agree op 0 + 1) % 2 ^ 64
-    → not same ≡ false → op < 24
-    → ◌≡◌ {A = Tally} (record { agree = set t.agree op n; differ = t.differ }) (counted_of t op same)
-agreed t op n same e h l = rw (not-false same h, lt-ltb op 24 l, e) refl
-
--- ---- read for themselves: a line that is counted as agreeing does agree
 
 -- a line that differs raises the one count, and none of those that agree
 pub differs : (t : Tally) (op : ℕ) → ((counted_of t op false).differ ≡ (t.differ + 1) % 2 ^ 64) × ((counted_of t op false).agree ≡ t.agree)

@@ -1,4 +1,3 @@
--- The laws of `sample`. Lending is what the programs cite.
+-- Lemmas of `word`, and what a line that agrees and a count mean, read for themselves.
 pub mod Digits
 pub mod Counting
-pub mod Lending

@@ -2,3 +2,5 @@
 pub mod Text
 pub mod Word
 pub mod Count
+pub mod Op
+pub mod Reading

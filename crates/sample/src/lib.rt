@@ -1,10 +1,17 @@
 #![tactic(auto)]
 // What the programs over the fixed sample share. A line has the words OP A B C STATUS X Y Z in hexadecimal, of 2, 16, 16, 16, 2, 16, 16
 // and 16 digits, with a space after each and a newline after the last.
-ghost use Rattle.std.specs.Prelude.{◌≡◌, ◌+◌, ◌%◌, ◌^◌, ◌<◌, ◌≤◌};
+ghost use Rattle.std.specs.Prelude.{◌≡◌, ◌+◌, ◌%◌, ◌^◌, ◌<◌, ◌≤◌, ◌∷◌, [], ◌++◌, slice_index, MatchOption, IfOk, OnOk};
+ghost use Rattle.std.specs.Fmt.{decimal};
+ghost use Rattle.std.specs.Io.KnownBytes.{Appends};
 ghost use Rattle.sample.specs.Text.{digit_of, number, op_of, line_of, first_is};
 ghost use Rattle.sample.specs.Word.{float_of, is_float, length_of};
+ghost use Rattle.sample.specs.Op.{number_of};
 ghost use Rattle.sample.specs.Count.{differing_of, counted_of};
+ghost use Rattle.sample.specs.Reading.{IsNext, Replays};
+
+use std::io;
+use std::io::{ErrorKind, Read, Write};
 
 // The call of a text that is no line, as where the sample has ended; a line has two digits for its own.
 pub const END: usize = 256;
@@ -24,6 +31,76 @@ pub struct Line {
     pub z: u64,
 }
 
+// The calls that lines are of, in the order of their numbers.
+#[derive(Clone, Copy, PartialEq, Eq)]
+pub enum Op {
+    Level,
+    IsCell,
+    Parent,
+    Child,
+    Add,
+    Sub,
+    HalfSize,
+    Centre,
+    Vertex,
+    IsInner,
+    Side,
+    ShouldRefine,
+    Start,
+    Distance,
+    KeysAt,
+    NodeAt,
+    Put,
+    Sound,
+    LookUp,
+    List,
+    VertexAt,
+    DualCell,
+    Slabs,
+    Lifetimes,
+}
+
+impl Op {
+    pub fn of(number: usize) -> Option<Op>
+        ensures { MatchOption result (24 ≤ number) (λ op. number_of op ≡ number) }
+    {
+        match number {
+            0 => Some(Op::Level),
+            1 => Some(Op::IsCell),
+            2 => Some(Op::Parent),
+            3 => Some(Op::Child),
+            4 => Some(Op::Add),
+            5 => Some(Op::Sub),
+            6 => Some(Op::HalfSize),
+            7 => Some(Op::Centre),
+            8 => Some(Op::Vertex),
+            9 => Some(Op::IsInner),
+            10 => Some(Op::Side),
+            11 => Some(Op::ShouldRefine),
+            12 => Some(Op::Start),
+            13 => Some(Op::Distance),
+            14 => Some(Op::KeysAt),
+            15 => Some(Op::NodeAt),
+            16 => Some(Op::Put),
+            17 => Some(Op::Sound),
+            18 => Some(Op::LookUp),
+            19 => Some(Op::List),
+            20 => Some(Op::VertexAt),
+            21 => Some(Op::DualCell),
+            22 => Some(Op::Slabs),
+            23 => Some(Op::Lifetimes),
+            _ => None,
+        }
+    }
+
+    pub fn number(self) -> usize
+        ensures value { result ≡ number_of self }
+        ensures bound { result < 24 }
+    {
+        self as usize
+    }
+}
+
 // How many lines of each call agreed, and how many of all differ.
 #[derive(Clone, Copy)]
 pub struct Tally {
@@ -37,19 +114,11 @@ fn digit(b: u8) -> u64
     ensures value { result ≡ digit_of b }
     ensures bound { result < 16 }
 {
-    if b < 48 {
-        return 0;
+    match b {
+        b'0'..=b'9' => u64::from(b - b'0'),
+        b'a'..=b'f' => u64::from(b - b'a' + 10),
+        _ => 0,
     }
-    if b < 58 {
-        return (b - 48) as u64;
-    }
-    if b < 97 {
-        return 0;
-    }
-    if b < 103 {
-        return (b - 87) as u64;
-    }
-    0
 }
 
 fn word(text: [u8; 108], at: usize, digits: usize) -> u64
@@ -59,10 +128,8 @@ fn word(text: [u8; 108], at: usize, digits: usize) -> u64
     ensures bound { result < 16 ^ digits }
 {
     let mut n = 0;
-    let mut i = 0;
-    while i < digits {
+    for i in 0..digits {
         n = n * 16 + digit(text[at + i]);
-        i += 1;
     }
     n
 }
@@ -70,13 +137,14 @@ fn word(text: [u8; 108], at: usize, digits: usize) -> u64
 fn low(n: u64) -> u32
     ensures { result ≡ n % 2 ^ 32 }
 {
+    // Kept: an `as` may lose nothing, and std has no call for a low half.
     (n % 0x1_0000_0000) as u32
 }
 
 fn op_of(text: [u8; 108]) -> usize
     ensures { result ≡ op_of text }
 {
-    if text[107] != 10 {
+    if text[107] != b'\n' {
         return END;
     }
     word(text, 0, 2) as usize
@@ -101,6 +169,18 @@ pub fn parse(text: [u8; 108]) -> Line
     }
 }
 
+// The next line of a sample, of the input's next 108 bytes; where they are not there, no line.
+pub fn read_line<R: Read>(input: &mut R) -> io::Result<Line>
+    ensures { IfOk result (IsNext (R.remaining input.old) (R.remaining input.new)) }
+{
+    let mut text = [0u8; 108];
+    match input.read_exact(&mut text) {
+        Ok(()) => Ok(parse(text)),
+        Err(e) if e.kind() == ErrorKind::UnexpectedEof => Ok(parse([0u8; 108])),
+        Err(e) => Err(e),
+    }
+}
+
 // The float of a word's low half; of every NaN's pattern, the NaN.
 pub fn float(bits: u64) -> f32
     ensures { result ≡ float_of bits }
@@ -119,10 +199,7 @@ pub fn is_float(d: f32, bits: u64) -> bool
 pub fn first_is(l: Line, n: u64) -> bool
     ensures { result ≡ first_is l n }
 {
-    if l.status != 0 {
-        return false;
-    }
-    n == l.x
+    l.status == 0 && n == l.x
 }
 
 // One of the four lengths that are packed in a word, the lowest being number 0, and at most so many.
@@ -130,10 +207,7 @@ pub fn length_at(packed: u64, which: u32, most: usize) -> usize
     ensures { result ≡ length_of packed which most }
 {
     let n = (packed >> (which % 4 * 16)) as usize % 0x1_0000;
-    if n < most {
-        return n;
-    }
-    most
+    n.min(most)
 }
 
 fn differing(t: Tally) -> Tally
@@ -142,7 +216,7 @@ fn differing(t: Tally) -> Tally
     let agree = t.agree;
     Tally {
         agree,
-        differ: std::num::wrapping_add_u64(t.differ, 1),
+        differ: t.differ.wrapping_add(1),
     }
 }
 
@@ -150,16 +224,48 @@ fn differing(t: Tally) -> Tally
 pub fn counted(t: Tally, op: usize, same: bool) -> Tally
     ensures { result ≡ counted_of t op same }
 {
-    if !same {
-        return differing(t);
-    }
-    if op >= 24 {
+    if !same || op >= 24 {
         return differing(t);
     }
     let mut agree = t.agree;
-    agree[op] = std::num::wrapping_add_u64(agree[op], 1);
+    agree[op] = agree[op].wrapping_add(1);
     Tally {
         agree,
         differ: t.differ,
     }
+}
+
+impl Tally {
+    pub fn agreeing(&self, op: Op) -> u64
+        ensures { result ≡ slice_index self.now.agree (number_of op) }
+    {
+        self.agree[op.number()]
+    }
+}
+
+// Asks of each line of a sample whether it agrees, up to the sample's end, and counts.
+pub fn replay<R: Read, F: FnMut(Line) -> bool>(input: &mut R, mut agrees: F) -> io::Result<Tally>
+    requires { F.IsAlwaysCallable agrees }
+    ensures { IfOk result (Replays F.step agrees (R.remaining input.old)) }
+{
+    let mut tally = Tally {
+        agree: [0; 24],
+        differ: 0,
+    };
+    for _ in 0..100_000 {
+        let l = read_line(input)?;
+        if l.op == END {
+            break;
+        }
+        let same = agrees(l);
+        tally = counted(tally, l.op, same);
+    }
+    Ok(tally)
+}
+
+// A name and a count, on a line of their own.
+pub fn show<W: Write>(output: &mut W, name: &str, count: u64) -> io::Result<()>
+    ensures { OnOk result (Appends (W.contents output.old) (W.contents output.new) (name.now ++ (32 ∷ (decimal count ++ (10 ∷ []))))) }
+{
+    writeln!(output, "{name} {count}")
 }
