@@ -1,118 +1,126 @@
 #![tactic(auto)]
 // What document 01's program `counts` prints for the bytes of its input: a bound byte and then f32 distances, little-endian, in the order in which
 // they are asked for.
-ghost use Rattle.std.specs.Prelude.{◌≡◌, ◌+◌, ◌≤◌, ◌<◌, length, get_or, take, drop};
+ghost use Rattle.std.specs.Prelude.{◌≡◌, ℕ, ◌+◌, ◌≤◌, ◌<◌, List, [], ◌∷◌, ◌++◌, length, get_or, take, drop};
 ghost use Rattle.std.specs.Float.{binary32};
 ghost use Rattle.std.specs.Float.Ieee.{of_bits};
 ghost use Rattle.build.specs.Build.{tables_of, outcome, start_of};
 ghost use Rattle.counting.specs.Vertices.{vertex_count};
-ghost use Rattle.counting.specs.Printed.{little_endian, distances_in, after_all, decimal, short_line, refused_line, counts_line, tree_line, line_of, Holds};
-ghost use Rattle.counting.specs.Writing.{no_text, put_of, put_all, Built, listed_of};
+ghost use Rattle.counting.specs.Printed.{little_endian, distances_in, after_all, decimal, short_line, refused_line, counts_line, tree_line, line_of};
+ghost use Rattle.counting.specs.Writing.{Built, listed_of};
 
 use build::{Answer, State};
+use std::marker::Model;
 use vertices::ListAnswer;
 
-// A line's bytes and how many they are; zeros follow.
-#[derive(Clone, Copy)]
+// A line's bytes, of which there are 64 at most.
+#[derive(Drop)]
 pub struct Text {
-    pub bytes: [u8; 64],
-    pub length: usize,
+    bytes: [u8; 64],
+    count: usize,
+}
+
+impl Model for Text {
+    ghost Value = { List ℕ };
+
+    ghost view = { λ t. take t.count t.bytes };
+
+    ghost invariant = { λ t. t.count ≤ 64 };
 }
 
 // ---- writing
 
-fn empty() -> Text
-    ensures { result ≡ no_text }
-{
-    Text {
-        bytes: [0u8; 64],
-        length: 0,
+impl Text {
+    fn new() -> Text
+        ensures { result ≡ [] }
+    {
+        Text {
+            bytes: [0; 64],
+            count: 0,
+        }
+    }
+
+    pub fn as_bytes(&self) -> &[u8]
+        ensures { result.now ≡ self.now }
+    {
+        &self.bytes[..self.count]
+    }
+
+    fn put(&mut self, byte: u8)
+        requires { length self.old < 64 }
+        ensures { self.new ≡ self.old ++ byte ∷ [] }
+    {
+        self.bytes[self.count] = byte;
+        self.count += 1;
+    }
+
+    fn put_all(&mut self, more: &[u8])
+        requires { length self.old + length more.now ≤ 64 }
+        ensures { self.new ≡ self.old ++ more.now }
+    {
+        for byte in more {
+            self.put(*byte);
+        }
+    }
+
+    fn put_decimal(&mut self, n: u64)
+        requires { length self.old + length (decimal n) ≤ 64 }
+        ensures { self.new ≡ self.old ++ decimal n }
+    {
+        if n >= 10 {
+            self.put_decimal(n / 10);
+        }
+        self.put(b'0' + (n % 10) as u8);
+    }
+
+    // A number in decimals, which are 20 at most, and a byte behind it.
+    fn put_number(&mut self, n: u64, end: u8)
+        requires { length self.old + 21 ≤ 64 }
+        ensures bytes { self.new ≡ self.old ++ (decimal n ++ end ∷ []) }
+        ensures room { length self.new ≤ length self.old + 21 }
+    {
+        self.put_decimal(n);
+        self.put(end);
     }
 }
 
-// A byte more, if there is room.
-fn put(text: Text, byte: u8) -> Text
-    ensures { result ≡ put_of text byte }
+#[tactic(auto, unfolding(crate::specs::Printed::short_line))]
+fn short() -> Text
+    ensures { result ≡ short_line }
 {
-    let at = text.length;
-    if at < 64 {
-        let mut bytes = text.bytes;
-        bytes[at] = byte;
-        return Text {
-            bytes: bytes,
-            length: at + 1,
-        };
-    }
+    let mut text = Text::new();
+    text.put_all(b"short\n");
     text
 }
 
-fn put_all(text: Text, more: &[u8]) -> Text
-    ensures { result ≡ put_all text more.now }
-{
-    let mut out = text;
-    let mut i = 0;
-    while i < more.len() {
-        let next = put(out, more[i]);
-        out = next;
-        i += 1;
-    }
-    out
-}
-
-fn put_decimal(text: Text, n: u64) -> Text
-    ensures { result ≡ put_all text (decimal n) }
-{
-    if n < 10 {
-        return put(text, 48 + n as u8);
-    }
-    put(put_decimal(text, n / 10), 48 + (n % 10) as u8)
-}
-
-fn short() -> Text
-    ensures { result ≡ put_all no_text short_line }
-{
-    put_all(empty(), b"short\n")
-}
-
+#[tactic(auto, unfolding(crate::specs::Printed::refused_line))]
 fn refused(number: u32) -> Text
-    ensures { result ≡ put_all no_text (refused_line number) }
+    ensures { result ≡ refused_line number }
 {
-    put_all(
-        put_decimal(put_all(empty(), b"refused "), number as u64),
-        b"\n",
-    )
+    let mut text = Text::new();
+    text.put_all(b"refused ");
+    text.put_number(u64::from(number), b'\n');
+    text
 }
 
+#[tactic(auto, unfolding(crate::specs::Printed::counts_line))]
 fn counts(nodes: usize, leaves: usize, vertices: usize) -> Text
-    ensures { result ≡ put_all no_text (counts_line nodes leaves vertices) }
+    ensures { result ≡ counts_line nodes leaves vertices }
 {
-    let first = put_all(put_decimal(empty(), nodes as u64), b" ");
-    let second = put_all(put_decimal(first, leaves as u64), b" ");
-    put_all(put_decimal(second, vertices as u64), b"\n")
+    let mut text = Text::new();
+    text.put_number(nodes as u64, b' ');
+    text.put_number(leaves as u64, b' ');
+    text.put_number(vertices as u64, b'\n');
+    text
 }
 
 // ---- reading
-
-fn wide(b: u8) -> u32
-    ensures { (result ≡ b) × (result < 256) }
-{
-    b as u32
-}
 
 fn bound_of(input: &[u8]) -> u32
     requires { 0 < length input.now }
     ensures { result ≡ get_or input.now 0 0 }
 {
-    wide(input[0])
-}
-
-// The number of four bytes, the lowest first.
-fn little_endian(a: u8, b: u8, c: u8, d: u8) -> u32
-    ensures { result ≡ little_endian a b c d }
-{
-    let low = wide(a) + 0x100 * wide(b);
-    let high = wide(c) + 0x100 * wide(d);
-    low + 0x1_0000 * high
+    u32::from(input[0])
 }
 
 // The distance from place at on.
@@ -122,7 +130,7 @@ fn distance_at(input: &[u8], at: usize) -> f32
         (little_endian (get_or input.now at 0) (get_or input.now (at + 1) 0)
         (get_or input.now (at + 2) 0) (get_or input.now (at + 3) 0)) }
 {
-    floats::from_bits(little_endian(input[at], input[at + 1], input[at + 2], input[at + 3]))
+    floats::from_bits(u32::from_le_bytes([input[at], input[at + 1], input[at + 2], input[at + 3]]))
 }
 
 // ---- the build
@@ -180,7 +188,7 @@ fn listed(s: State, keys: &[u64], distances: &[f32], firsts: &[u16], leaves: &[u
 
 fn tree_line(s: State, keys: &[u64], distances: &[f32], firsts: &[u16], leaves: &[u64]) -> Text
     requires { Built s keys.now distances.now firsts.now leaves.now }
-    ensures { result ≡ put_all no_text (tree_line s.nodes s.leaves (vertex_count (take s.leaves leaves.now))) }
+    ensures { result ≡ tree_line s.nodes s.leaves (vertex_count (take s.leaves leaves.now)) }
 {
     let answer = listed(s, keys, distances, firsts, leaves);
     match answer {
@@ -191,9 +199,10 @@ fn tree_line(s: State, keys: &[u64], distances: &[f32], firsts: &[u16], leaves: 
 
 // The whole line, of any bytes at all.
 pub fn line(input: &[u8]) -> Text
-    ensures { Holds (line_of input.now) result.bytes result.length }
+    ensures line { result ≡ line_of input.now }
+    ensures fits { length result ≤ 64 }
 {
-    if input.len() == 0 {
+    if input.is_empty() {
         return short();
     }
     let mut keys = [0u64; 1024];

@@ -50,8 +50,7 @@ fn answer<R: Read, W: Write>(input: &mut R, output: &mut W) -> io::Result<()>
     let mut start = [0u8; 4101];
     let got = fill(input, &mut start)?;
     let text = counting::line(&start[..got]);
-    let bytes = text.bytes;
-    output.write_all(&bytes[..text.length])
+    output.write_all(text.as_bytes())
 }
 
 fn main(rt: HostRuntime) -> io::Result<()> {

@@ -617,11 +617,9 @@ fn show(rt: &impl Print, example: &[u8], given: Given, length: usize) -> io::Res
     let mut input = [0u8; 4200];
     fill(given, &mut input);
     let text = counting::line(&input[..length]);
-    let bytes = text.bytes;
-    let n = text.length;
     rt.write_all(example)?;
     rt.write_all(b": ")?;
-    rt.write_all(&bytes[..n])
+    rt.write_all(text.as_bytes())
 }
 
 // 1.0 but for zeros from one place to before another.

@@ -1,0 +1,5 @@
+-- `put_decimal` goes on with a tenth.
+use Rattle.counting.proofs.Text.+put_decimal.Given as goal
+
+abbrev pub decreases-put_decimal : goal.decreases-put_decimal
+decreases-put_decimal l = l.n
