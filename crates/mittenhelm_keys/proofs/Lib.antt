@@ -1,3 +1,2 @@
--- Laws that the proofs of `mittenhelm_keys` share.
-pub mod Handing
+-- The laws of `mittenhelm_keys`, which are read for themselves.
 pub mod One

@@ -4,31 +4,26 @@ use mathlib.Core.Bool.{Bool, ◌&&◌}
 use Prim.Native.Nat.{ℕ}
 use lib.Dec.{leb}
 use lib.Ieee.{Float}
-use Rattle.morton.specs.declared.KeyAnswer.{KeyAnswer}
-use Rattle.morton.specs.declared.KeyAnswer.TheVariants as key
-use Rattle.morton.specs.declared.SizeAnswer.{SizeAnswer}
-use Rattle.morton.specs.declared.SizeAnswer.TheVariants as size
-use Rattle.morton.specs.declared.CentreAnswer.{CentreAnswer}
-use Rattle.morton.specs.declared.CentreAnswer.TheVariants as centre
+use Rattle.std.specs.Prelude.{Result, Ok, Err}
+use Rattle.refusals.specs.declared.Refusal.{Refusal}
+use Rattle.refusals.specs.Refusals.{number, Hands}
+use Rattle.morton.specs.declared.Key.{Key}
+use Rattle.morton.specs.declared.Vec3.{Vec3}
 use Rattle.morton.specs.Answers.{child_of, vertex_answer, side_answer, HalfSizeSays, CentreSays}
 use Rattle.morton.specs.Field.{add, sub}
 use Rattle.morton.specs.Level.{deepest, level, is_cell, parent_of}
 use Rattle.morton.specs.Split.{splits}
 use Rattle.morton.specs.Vertex.{is_inner}
-use Rattle.morton.proofs.One.{OnlyOne, equal, both, handed_on, half_size_one as size-answer-one, centre_one as centre-answer-one}
-use Rattle.mittenhelm_keys.specs.Keys.{HandsKey, HandsFloat, HandsSize, Three, three, HandsThree, HandsCentre}
+use Rattle.morton.proofs.One.{OnlyOne, equal, both, hands_one, handed_on, half_size_one as size-answer-one, centre_one as centre-answer-one}
+use Rattle.mittenhelm_keys.specs.Keys.{HandsKey, HandsSize, Three, three, HandsThree, HandsCentre}
 
-key_one : (a : KeyAnswer) (was : ℕ) → OnlyOne (λ (r : ℕ × ℕ). HandsKey a was r.0 r.1)
-key_one (key.Is k) was = both 0 k.code
-key_one (key.Refused n) was = both n was
+key_one : (a : Result Key Refusal) (was : ℕ) → OnlyOne (λ (r : ℕ × ℕ). HandsKey a was r.0 r.1)
+key_one (Ok k) was = both 0 k.code
+key_one (Err e) was = both (number e) was
 
-float_one : (a : SizeAnswer) (was : Float) → OnlyOne (λ (r : ℕ × Float). HandsFloat a was r.0 r.1)
-float_one (size.Is h) was = both 0 h
-float_one (size.Refused n) was = both n was
-
-three_one : (a : CentreAnswer) (was : Three) → OnlyOne (λ (r : ℕ × Three). HandsThree a was r.0 r.1)
-three_one (centre.Is p) was = both 0 (three p.x p.y p.z)
-three_one (centre.Refused n) was = both n was
+three_one : (a : Result Vec3 Refusal) (was : Three) → OnlyOne (λ (r : ℕ × Three). HandsThree a was r.0 r.1)
+three_one (Ok p) was = both 0 (three p.x p.y p.z)
+three_one (Err e) was = both (number e) was
 
 pub level_one : (k : ℕ) → OnlyOne (λ (r : ℕ). r ≡ level k)
 level_one k = equal (level k)
@@ -49,7 +44,7 @@ pub child_one : (k w was : ℕ) → OnlyOne (λ (r : ℕ × ℕ). HandsKey (chil
 child_one k w was = key_one (child_of k w) was
 
 pub half_size_one : (k : ℕ) (was : Float) → OnlyOne (λ (r : ℕ × Float). HandsSize k was r.0 r.1)
-half_size_one k was = handed_on (HalfSizeSays k) (λ a r. HandsFloat a was r.0 r.1) (size-answer-one k) (λ a. float_one a was)
+half_size_one k was = handed_on (HalfSizeSays k) (λ a r. Hands a was r.0 r.1) (size-answer-one k) (λ a. hands_one a was)
 
 pub centre_one : (k : ℕ) (was : Three) → OnlyOne (λ (r : ℕ × Three). HandsCentre k was r.0 r.1)
 centre_one k was = handed_on (CentreSays k) (λ a r. HandsThree a was r.0 r.1) (centre-answer-one k) (λ a. three_one a was)

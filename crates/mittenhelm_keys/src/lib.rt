@@ -8,19 +8,14 @@ ghost use Rattle.morton.specs.Split.{splits};
 ghost use Rattle.morton.specs.Vertex.{is_inner};
 ghost use Rattle.mittenhelm_keys.specs.Keys.{HandsKey, HandsSize, HandsCentre, three};
 
-use morton::{CentreAnswer, Key, KeyAnswer, SizeAnswer};
+use morton::Key;
+use refusals::{Refusal, hand};
 
-// A key goes to the out parameter, a refusal's number back.
-fn hand_key(answer: KeyAnswer, out: &mut u64) -> u32
+// A key is handed over as a number.
+fn hand_key(answer: Result<Key, Refusal>, out: &mut u64) -> u32
     ensures { HandsKey answer out.old result out.new }
 {
-    match answer {
-        KeyAnswer::Is(k) => {
-            *out = k.code;
-            0
-        }
-        KeyAnswer::Refused(number) => number,
-    }
+    hand(answer.map(|key| key.code), out)
 }
 
 pub fn mittenhelm_level(key: u64) -> u32
@@ -62,28 +57,22 @@ pub fn mittenhelm_child(key: u64, which: u32, child: &mut u64) -> u32
 pub fn mittenhelm_half_size(key: u64, half: &mut f32) -> u32
     ensures { HandsSize key half.old result half.new }
 {
-    let answer = Key { code: key }.half_size();
-    match answer {
-        SizeAnswer::Is(h) => {
-            *half = h;
-            0
-        }
-        SizeAnswer::Refused(number) => number,
-    }
+    hand(Key { code: key }.half_size(), half)
 }
 
 pub fn mittenhelm_centre(key: u64, x: &mut f32, y: &mut f32, z: &mut f32) -> u32
     ensures { HandsCentre key (three x.old y.old z.old) result (three x.new y.new z.new) }
 {
     let answer = Key { code: key }.centre();
+    // Kept: a `match`, and not `hand`, since C lends a place for each axis.
     match answer {
-        CentreAnswer::Is(p) => {
+        Ok(p) => {
             *x = p.x;
             *y = p.y;
             *z = p.z;
             0
         }
-        CentreAnswer::Refused(number) => number,
+        Err(refusal) => refusal.number(),
     }
 }
 
