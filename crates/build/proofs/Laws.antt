@@ -18,9 +18,11 @@ use Rattle.std.specs.Prelude.{⊤, Result, Ok, Err}
 use Rattle.refusals.specs.declared.Refusal.{Refusal}
 use Rattle.refusals.specs.declared.Refusal.TheVariants.{NotFitting}
 use Rattle.build.specs.declared.Answer.{Answer}
+use mathlib.Core.List.{List}
+use Rattle.build.specs.declared.Tables as lent
 use Rattle.build.specs.declared.Lengths.{Lengths}
 use Rattle.build.specs.declared.State.{State}
-use Rattle.build.specs.Build.{Tables, Ready, Outcome, outcome, lengths_of, node_room, finest, cell_to, leaves_of}
+use Rattle.build.specs.Build.{Tables, tables_of, tables_in, Ready, Outcome, outcome, lengths_of, node_room, finest, cell_to, leaves_of}
 use Rattle.build.specs.Build.{same_lengths, counts_fit, idle_fits, busy_fits, fits_at, allowed, full_of, refusal_at, refusal_of, split_of, stored_of, advance_of, decide_of, accept_of, distance_of}
 
 -- ---- cell keys of bounded level
@@ -244,3 +246,10 @@ module _ (s : State) (t : Tables) (d : Float) {r : Result ⊤ Refusal} (h : r �
   pub call_accepted : (split : Bool) → split ≡ split_of s d → r ≡ allowed → (o : Outcome) → o ≡ accept_of s split d t → o ≡ distance_of s d t
   unfolding distance_of
   call_accepted split f z o a = rw f at a ∙ accepted s (split_of s d) d t (sym h ∙ z)
+
+-- ---- for callers: the slices hold what the tables hold that they were lent as
+
+pub handed_back : {keys : List ℕ} {distances : List Float} {firsts leaves queue : List ℕ} (t : lent.Tables) (a : Result Answer Refusal) (o : Outcome)
+    → keys ≡ t.keys.now → distances ≡ t.distances.now → firsts ≡ t.firsts.now → leaves ≡ t.leaves.now → queue ≡ t.queue.now
+    → outcome a (tables_in t) ≡ o → outcome a (tables_of keys distances firsts leaves queue) ≡ o
+handed_back t a o k d f l q e = rw (k, d, f, l, q) e

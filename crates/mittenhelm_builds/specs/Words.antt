@@ -1,10 +1,12 @@
 -- How a build is handed to a host: its state as nine words in a lent slice, its request in five places. Assumes nothing.
-use Rattle.std.specs.Prelude.{ℕ, cond, not, List, [], ◌∷◌, eqb, ltb, Float, length, get_or}
+use Rattle.std.specs.Prelude.{ℕ, Result, Ok, Err, cond, not, List, [], ◌∷◌, eqb, ltb, Float, length, get_or}
 use Rattle.morton.specs.Level.{limit}
+use Rattle.refusals.specs.declared.Refusal.{Refusal}
+use Rattle.refusals.specs.Refusals.{number}
 use Rattle.build.specs.declared.Request.{Request}
 use Rattle.build.specs.declared.State.{State}
 use Rattle.build.specs.declared.Answer.{Answer}
-use Rattle.build.specs.declared.Answer.TheVariants.{Ask, Finished, Refused}
+use Rattle.build.specs.declared.Answer.TheVariants.{Ask, Finished}
 use Rattle.build.specs.Build.{Tables, Outcome, start_of, distance_of}
 
 -- The words: bound, nodes, leaves, the asked key, and the lengths of node keys, node distances, first children, leaf keys and queue.
@@ -36,10 +38,10 @@ abbrev pub reply : ℕ → List ℕ → Request → Reply
 reply number words request = record { number = number; words = words; request = request }
 
 -- A state and a request are written where there are any; a refusal leaves all as it was.
-unfoldable pub hand_over : Answer → List ℕ → Request → Reply
-hand_over (Ask r s) words request = reply 0 (words_of s) r
-hand_over (Finished s) words request = reply 0 (words_of s) request
-hand_over (Refused k) words request = reply k words request
+unfoldable pub hand_over : Result Answer Refusal → List ℕ → Request → Reply
+hand_over (Ok (Ask r s)) words request = reply 0 (words_of s) r
+hand_over (Ok (Finished s)) words request = reply 0 (words_of s) request
+hand_over (Err e) words request = reply (number e) words request
 
 -- 5 as for every start. Then 10, since a slice of other than nine words is no place for a state.
 unfoldable pub start_replies : ℕ → Tables → List ℕ → Request → Reply

@@ -5,8 +5,10 @@ ghost use Rattle.morton.specs.Level.{limit};
 ghost use Rattle.build.specs.Build.{tables_of};
 ghost use Rattle.mittenhelm_builds.specs.Words.{state_of, words_of, request_at, reply, hand_over, start_replies, effect, distance_effect};
 
-use build::{Answer, Lengths, State};
+use build::{Answer, Lengths, State, Tables};
+use refusals::Refusal;
 
+// Kept: nine words, and none of them typed: the C interface.
 // The state that nine words hold. Its bound fits a `u32`: one above the limit was refused before.
 fn read_state(words: &[u64]) -> State
     requires { (length words.now ≡ 9) × (get_or words.now 0 0 ≤ limit) }
@@ -27,12 +29,13 @@ fn read_state(words: &[u64]) -> State
     }
 }
 
+// Kept: nine words, as they are read.
 fn write_state(words: &mut [u64], s: State)
     requires { length words.old ≡ 9 }
     ensures { words.new ≡ words_of s }
 {
     let lengths = s.lengths;
-    words[0] = s.bound as u64;
+    words[0] = u64::from(s.bound);
     words[1] = s.nodes as u64;
     words[2] = s.leaves as u64;
     words[3] = s.asked;
@@ -43,9 +46,10 @@ fn write_state(words: &mut [u64], s: State)
     words[8] = lengths.queue as u64;
 }
 
+// Kept: six places, each lent by itself: the C interface.
 // A state and a request go to their places, a refusal's number back.
 fn hand_over(
-    answer: Answer,
+    answer: Result<Answer, Refusal>,
     state: &mut [u64],
     key: &mut u64,
     x: &mut f32,
@@ -58,7 +62,7 @@ fn hand_over(
         ≡ hand_over answer state.old (request_at key.old x.old y.old z.old half.old) }
 {
     match answer {
-        Answer::Ask(request, next) => {
+        Ok(Answer::Ask(request, next)) => {
             write_state(state, next);
             *key = request.key;
             *x = request.x;
@@ -67,14 +71,15 @@ fn hand_over(
             *half = request.half;
             0
         }
-        Answer::Finished(next) => {
+        Ok(Answer::Finished(next)) => {
             write_state(state, next);
             0
         }
-        Answer::Refused(number) => number,
+        Err(refusal) => refusal.number(),
     }
 }
 
+// Kept: the C interface lends each table by itself, and to a start only to be read.
 pub fn mittenhelm_start(
     bound: u32,
     keys: &[u64],
@@ -94,15 +99,23 @@ pub fn mittenhelm_start(
         state.old (request_at key.old x.old y.old z.old half.old) }
 {
     if bound > morton::LIMIT {
-        return 5;
+        return Refusal::AboveFifteen.number();
     }
     if state.len() != 9 {
-        return 10;
+        return Refusal::NotFitting.number();
     }
-    let answer = build::start(bound, keys, distances, firsts, leaves, queue);
+    let lengths = Lengths {
+        keys: keys.len(),
+        distances: distances.len(),
+        firsts: firsts.len(),
+        leaves: leaves.len(),
+        queue: queue.len(),
+    };
+    let answer = build::start(bound, lengths);
     hand_over(answer, state, key, x, y, z, half)
 }
 
+// Kept: the C interface lends each table by itself.
 pub fn mittenhelm_distance(
     state: &mut [u64],
     keys: &mut [u64],
@@ -123,19 +136,18 @@ pub fn mittenhelm_distance(
         (request_at key.old x.old y.old z.old half.old) }
 {
     if state.len() != 9 {
-        return 10;
+        return Refusal::NotFitting.number();
     }
-    if state[0] > morton::LIMIT as u64 {
-        return 10;
+    if state[0] > u64::from(morton::LIMIT) {
+        return Refusal::NotFitting.number();
     }
-    let answer = build::distance(
-        read_state(state),
+    let mut tables = Tables {
         keys,
         distances,
         firsts,
         leaves,
         queue,
-        distance,
-    );
+    };
+    let answer = build::distance(read_state(state), &mut tables, distance);
     hand_over(answer, state, key, x, y, z, half)
 }

@@ -5,4 +5,4 @@ use Rattle.mittenhelm_builds.proofs.write_state.Goals as goal
 
 pub returns : goal.returns
 unfolding words_of
-returns c = nine_words c.args.words.now _ _ _ _ _ _ _ _ _ c.requires
+returns c = rw c.from.ensures (nine_words c.args.words.now _ _ _ _ _ _ _ _ _ c.requires)
