@@ -18,7 +18,8 @@ use Rattle.tree.specs.Down.{Nodes}
 use Rattle.vertices.specs.Walk.{place_at, Spot, in_turn, low_corner, divided, meets, walked, spots_of, vertices_of, levels_of}
 use Rattle.vertices.specs.Cells.{since, wanted, eight, round_of, places_of, Cells, cells_of, room_of, CellsSays}
 use Rattle.vertices.specs.Listing.{written}
-use Rattle.vertices.specs.Block.{lowered_place, Laid, Stored, Took, TakeSays, Skipped}
+use Rattle.vertices.specs.declared.Out.{Out}
+use Rattle.vertices.specs.Block.{lowered_place, the_cells, SameSize, SameOut, Laid, Stored, Took, TakeSays, Skipped}
 use Rattle.vertices.proofs.Blocks.{walk_ind, Each, each_map, each_turn, ending_by, walked_end, walked_on, walked_stop, ending_one, ending_none, vertices_append, levels_append, vertices_length, levels_length, sets_append}
 use Rattle.vertices.proofs.Law.{corner_last, corner_mono}
 use Rattle.vertices.proofs.Spot.{corner_next}
@@ -121,9 +122,21 @@ eight_at_lem f (suc (suc (suc (suc (suc (suc zero)))))) h = refl
 eight_at_lem f (suc (suc (suc (suc (suc (suc (suc zero))))))) h = refl
 eight_at_lem f (suc (suc (suc (suc (suc (suc (suc (suc i)))))))) h = absurd (omega arith)
 
--- no table changes its length
-abbrev pub SameSize : Cells → Cells → Type 0
-SameSize was left = (length left.vertices ≡ length was.vertices) × (length left.levels ≡ length was.levels) × (length left.places ≡ length was.places)
+pub same_all : (t : Out) → SameOut t t
+same_all t = record { vertices = refl; levels = refl; places = refl; sizes = record { vertices = refl; levels = refl; places = refl } }
+
+same_join : (t0 t1 t2 : Out) → SameOut t0 t1 → SameOut t1 t2 → SameOut t0 t2
+same_join t0 t1 t2 a b =
+    record {
+      vertices = b.vertices ∙ a.vertices;
+      levels = b.levels ∙ a.levels;
+      places = b.places ∙ a.places;
+      sizes = record {
+        vertices = b.sizes.vertices ∙ a.sizes.vertices;
+        levels = b.sizes.levels ∙ a.sizes.levels;
+        places = b.sizes.places ∙ a.sizes.places;
+      };
+    }
 
 module _ (ks : Nodes) where
   pub places_append : (ss ts : List Spot) → places_of ks (ss ++ ts) ≡ places_of ks ss ++ places_of ks ts
@@ -156,9 +169,9 @@ module _ (ks : Nodes) where
     stored_join ss ts at n r t0 t1 t2 k a b =
         record {
           count = omega (arith, a.count, b.count, ap length both, length-append first second);
-          vertices_are = λ p q. one (vertices_of first) (vertices_of second) (vertices_of (wanted from (room - at) (ss ++ ts))) at n t0.vertices t1.vertices t2.vertices (ap vertices_of both ∙ vertices_append first second) (omega (arith, a.count, vertices_length first)) (a.vertices_are (small p) (small q)) (b.vertices_are (omega (arith, k.0)) (omega (arith, k.1)));
-          levels_are = λ p q. one (levels_of first) (levels_of second) (levels_of (wanted from (room - at) (ss ++ ts))) at n t0.levels t1.levels t2.levels (ap levels_of both ∙ levels_append first second) (omega (arith, a.count, levels_length first)) (a.levels_are (small p) (small q)) (b.levels_are (omega (arith, k.0)) (omega (arith, k.1)));
-          places_are = λ p. one (places_of ks first) (places_of ks second) (places_of ks (wanted from (room - at) (ss ++ ts))) (8 * at) (8 * n) t0.places t1.places t2.places (ap (places_of ks) both ∙ places_append first second) (omega (arith, a.count, places_length first)) (a.places_are (omega (arith, b.count))) (b.places_are (omega (arith, k.2)));
+          vertices_are = λ p q. one (vertices_of first) (vertices_of second) (vertices_of (wanted from (room - at) (ss ++ ts))) at n t0.vertices t1.vertices t2.vertices (ap vertices_of both ∙ vertices_append first second) (omega (arith, a.count, vertices_length first)) (a.vertices_are (small p) (small q)) (b.vertices_are (omega (arith, k.vertices)) (omega (arith, k.levels)));
+          levels_are = λ p q. one (levels_of first) (levels_of second) (levels_of (wanted from (room - at) (ss ++ ts))) at n t0.levels t1.levels t2.levels (ap levels_of both ∙ levels_append first second) (omega (arith, a.count, levels_length first)) (a.levels_are (small p) (small q)) (b.levels_are (omega (arith, k.vertices)) (omega (arith, k.levels)));
+          places_are = λ p. one (places_of ks first) (places_of ks second) (places_of ks (wanted from (room - at) (ss ++ ts))) (8 * at) (8 * n) t0.places t1.places t2.places (ap (places_of ks) both ∙ places_append first second) (omega (arith, a.count, places_length first)) (a.places_are (omega (arith, b.count))) (b.places_are (omega (arith, k.places)));
         }
       where
         small : {m : ℕ} → r ≤ m → n ≤ m
@@ -288,12 +301,14 @@ module _ (ks : Nodes) (from room : ℕ) where
   pub grown_on : (l c q n r : ℕ) (t0 t1 : Cells) → Stored ks from room (walked (limit - (l + 1)) ks (l + 1) (8 * c + q)) n r t0 t1 → Grown ks from room l c q n r t0 t1
   grown_on l c q n r t0 t1 a = subst (λ (k : ℕ). Stored ks from room (walked (limit - k) ks k (8 * c + q)) n r t0 t1) (add-one l) a
 
-  -- one more child, no further than there is room
-  pub partly_step : (l c q at n r : ℕ) (t0 t1 t2 : Cells) → SameSize t0 t1 → (n ≤ room) × Partly ks from room l c q at n t0 t1
-      → Grown ks from room l c q n r t1 t2 → (r ≤ room) × Partly ks from room l c (q + 1) at r t0 t2
-  partly_step l c q at n r t0 t1 t2 k a b = (
-    omega (arith, a.0, b.count, wanted_most from (room - n) (walked (limit - suc l) ks (suc l) (8 * c + q))),
-    partly_more ks from room l c q at n r t0 t1 t2 k a.1 b,
+  -- one more child, in the same tables, no further than there is room
+  pub partly_step : (l c q at n r : ℕ) (t0 t1 t2 : Out) → SameOut t0 t1 × (n ≤ room) × Partly ks from room l c q at n (the_cells t0) (the_cells t1)
+      → SameOut t1 t2 → Grown ks from room l c q n r (the_cells t1) (the_cells t2)
+      → SameOut t0 t2 × (r ≤ room) × Partly ks from room l c (q + 1) at r (the_cells t0) (the_cells t2)
+  partly_step l c q at n r t0 t1 t2 a k b = (
+    same_join t0 t1 t2 a.0 k,
+    omega (arith, a.1, b.count, wanted_most from (room - n) (walked (limit - suc l) ks (suc l) (8 * c + q))),
+    partly_more ks from room l c q at n r (the_cells t0) (the_cells t1) (the_cells t2) a.0.sizes a.2 b,
   )
 
 -- what is not skipped has room
@@ -307,17 +322,18 @@ unfolding room_of
 room_is v l p a b e f = f ∙ ap (λ (k : ℕ). min k (length p / 8)) e
 
 module _ (ks : Nodes) (from room : ℕ) (was : Cells) (e : room ≡ room_of was) where
-  pub cells_says : (n : ℕ) (left : Cells) → Stored ks from room (spots_of ks) 0 n was left → CellsSays ks from was left n
+  pub cells_says : (n : ℕ) (t left : Cells) → left.vertices ≡ t.vertices → left.levels ≡ t.levels → left.places ≡ t.places
+      → Stored ks from room (spots_of ks) 0 n was t → CellsSays ks from was left n
   unfolding room_of
-  cells_says n left a =
+  cells_says n t left ve le pe a =
       let v : n ≤ length was.vertices = omega (arith, a.count, most, e) in
       let l : n ≤ length was.levels = omega (arith, a.count, most, e) in
       let p : 8 * n ≤ length was.places = omega (arith, a.count, most, e) in
       record {
         count = a.count ∙ zero-add (length (wanted from (room - 0) (spots_of ks))) ∙ ap length same;
-        vertices_are = told vertices_of was.vertices left.vertices (a.vertices_are v l) (omega (arith, a.count, vertices_length (wanted from (room - 0) (spots_of ks))));
-        levels_are = told levels_of was.levels left.levels (a.levels_are v l) (omega (arith, a.count, levels_length (wanted from (room - 0) (spots_of ks))));
-        places_are = told (places_of ks) was.places left.places (a.places_are p) (omega (arith, a.count, places_length ks (wanted from (room - 0) (spots_of ks))));
+        vertices_are = told vertices_of was.vertices left.vertices (ve ∙ a.vertices_are v l) (omega (arith, a.count, vertices_length (wanted from (room - 0) (spots_of ks))));
+        levels_are = told levels_of was.levels left.levels (le ∙ a.levels_are v l) (omega (arith, a.count, levels_length (wanted from (room - 0) (spots_of ks))));
+        places_are = told (places_of ks) was.places left.places (pe ∙ a.places_are p) (omega (arith, a.count, places_length ks (wanted from (room - 0) (spots_of ks))));
       }
     where
       same : wanted from (room - 0) (spots_of ks) ≡ wanted from (room_of was) (spots_of ks)
@@ -343,14 +359,14 @@ module _ (ks : Nodes) where
       all [] = refl
       all (s ∷ ss) = ap (λ (r : Bool). cond r (s ∷ since 0 ss) (since 0 ss)) (le-leb 0 s.vertex (omega arith)) ∙ ap (λ (xs : List Spot). s ∷ xs) (all ss)
 
-  pub all_laid : (room r : ℕ) (t0 t1 : Cells) → length (spots_of ks) ≤ room → Stored ks 0 room (spots_of ks) 0 r t0 t1
-      → Laid (spots_of ks) 0 r t0.vertices t0.levels t1.vertices t1.levels
-  all_laid room r t0 t1 h a =
+  pub all_laid : (room r : ℕ) (t0 t1 : Cells) (v l : List ℕ) → v ≡ t1.vertices → l ≡ t1.levels → length (spots_of ks) ≤ room
+      → Stored ks 0 room (spots_of ks) 0 r t0 t1 → Laid (spots_of ks) 0 r t0.vertices t0.levels v l
+  all_laid room r t0 t1 v l ve le h a =
       record {
         count = a.count ∙ ap (λ (ss : List Spot). 0 + length ss) every;
         tables = λ p q. (
-          a.vertices_are p q ∙ ap (λ (ss : List Spot). sets t0.vertices 0 (vertices_of ss)) every,
-          a.levels_are p q ∙ ap (λ (ss : List Spot). sets t0.levels 0 (levels_of ss)) every,
+          ve ∙ a.vertices_are p q ∙ ap (λ (ss : List Spot). sets t0.vertices 0 (vertices_of ss)) every,
+          le ∙ a.levels_are p q ∙ ap (λ (ss : List Spot). sets t0.levels 0 (levels_of ss)) every,
         );
       }
     where

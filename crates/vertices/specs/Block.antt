@@ -5,8 +5,10 @@ use Rattle.std.proofs.lemmas.List.Edits.{sets}
 use Rattle.morton.specs.Field.{bit, coord, sub}
 use Rattle.morton.specs.Level.{limit, if₀, Cell}
 use Rattle.tree.specs.Down.{Nodes, first_at, steps}
+use Rattle.vertices.specs.declared.Block as lent
+use Rattle.vertices.specs.declared.Out as lent-out
 use Rattle.vertices.specs.Walk.{split_at, entry, place_at, low_corner, Spot, vertices_of, levels_of}
-use Rattle.vertices.specs.Cells.{wanted, places_of, Cells}
+use Rattle.vertices.specs.Cells.{wanted, places_of, Cells, cells_of}
 
 -- Bit i of a mask is set.
 unfoldable pub marked : ℕ → ℕ → Bool
@@ -27,6 +29,10 @@ pub record Here (ks : Nodes) (l c : ℕ) (at : List ℕ) (mask low : ℕ) : Type
   pub eight_places : length at ≡ 8
   pub stands : (o : ℕ) → o < 8 → get_or at o 0 ≡ if₀ (marked mask o) (first_at ks (place_at ks l c o)) (place_at ks l c o)
   pub side : Low l c low
+
+-- The same of the block that the code lends.
+abbrev pub HereIn : Nodes → lent.Block → Type 0
+HereIn ks b = Here ks b.cube.level b.cube.cell b.at b.mask b.low
 
 -- The grandchildren of each marked entry, which is the cell that lies that way, are numbers of 64 bits.
 abbrev pub Small : ℕ → ℕ → Type 0
@@ -74,6 +80,23 @@ pub record Touched (low mask q : ℕ) : Type 0 where
   pub fine : (o : ℕ) × (o < 8) × (marked mask (bit_and o (7 - q)) ≡ true)
 
 -- ---- tables
+
+-- What the tables that the walk writes hold.
+abbrev pub the_cells : lent-out.Out → Cells
+the_cells t = cells_of t.vertices.now t.levels.now t.places.now
+
+-- No table changes its length.
+pub record SameSize (was left : Cells) : Type 0 where
+  pub vertices : length left.vertices ≡ length was.vertices
+  pub levels : length left.levels ≡ length was.levels
+  pub places : length left.places ≡ length was.places
+
+-- They are the same tables, however written.
+pub record SameOut (was left : lent-out.Out) : Type 0 where
+  pub vertices : left.vertices.ghost_name ≡ was.vertices.ghost_name
+  pub levels : left.levels.ghost_name ≡ was.levels.ghost_name
+  pub places : left.places.ghost_name ≡ was.places.ghost_name
+  pub sizes : SameSize (the_cells was) (the_cells left)
 
 -- A vertex and its level stand at a place, if both tables have it.
 abbrev pub PutSays : List ℕ → List ℕ → ℕ → ℕ → ℕ → List ℕ → List ℕ → Type 0

@@ -9,15 +9,46 @@ ghost use Rattle.std.proofs.lemmas.List.Edits.{sets};
 ghost use Rattle.vertices.specs.Listing.{lists_of, ListSays, TrustingSays};
 ghost use Rattle.vertices.specs.Cells.{eight, cells_of, CellsSays};
 ghost use Rattle.tree.specs.Down.{the_nodes};
-ghost use Rattle.vertices.specs.Block.{seen_by, kept_by, marked, Here, Small, ChildlessSays, ChildMarks, BelowMarks, SeenSays, LoweredMarks, Touched, PutSays, RoundSays, Laid, Near, Each16, lowered_place, LoweredAt, Stored, TakeSays, Skipped};
+ghost use Rattle.vertices.specs.Block.{seen_by, kept_by, marked, HereIn, Small, ChildlessSays, ChildMarks, BelowMarks, SeenSays, LoweredMarks, Touched, the_cells, SameOut, PutSays, RoundSays, Laid, Near, Each16, lowered_place, LoweredAt, Stored, TakeSays, Skipped};
 
 use morton::Key;
 use refusals::Refusal;
 use tree::{Nodes, Tree};
 
-// The walk goes over the cells from the root down (specs/Walk.antt), and so finds the vertices in order. It carries where a cell's eight entries stand,
-// of a split one where its first child does; a mask of those that are split, bit o being set where entry o has the cell's own level and children; and three
-// bits for the axes on which the cell lies at the cube's low side. Where no entry is split, the walk ends: the cell's low corner is listed, or nothing is.
+// The walk goes over the cells from the root down (specs/Walk.antt), and so finds the vertices in order. It carries the block of a cell: its eight entries.
+// Where no entry is split, the walk ends: the cell's low corner is listed, or nothing is.
+
+// A cell, with its level.
+#[derive(Clone, Copy)]
+struct Cube {
+    level: u8,
+    cell: u64,
+}
+
+// The block of a cell: where its eight entries stand, of a split one where its first child does; a mask of those that are split, bit o being set where
+// entry o has the cell's own level and children; and three bits for the axes on which the cell lies at the cube's low side.
+#[derive(Drop)]
+struct Block {
+    cube: Cube,
+    at: [u32; 8],
+    mask: u64,
+    low: usize,
+}
+
+// Which vertices are wanted: those from a number on, up to so many places.
+#[derive(Clone, Copy)]
+struct Wanted {
+    from: u64,
+    room: usize,
+}
+
+// The tables that the walk writes.
+#[derive(Drop)]
+struct Out<'a> {
+    vertices: &'a mut [u64],
+    levels: &'a mut [u8],
+    places: &'a mut [usize],
+}
 
 // Whether bit i of a mask is set.
 fn marked(mask: u64, i: usize) -> bool
@@ -68,20 +99,6 @@ fn lower_cell(cell: u64, o: usize) -> u64
     let by = Key { code: o as u64 };
     let key = from.sub(by);
     key.code
-}
-
-// The same for each split entry of a block, eight bits for each entry: it is the cell that lies that way.
-fn split_below(nodes: &Nodes, cell: u64, at: &[u32], mask: u64) -> u64
-    requires { Small cell mask × Near at.now }
-    ensures { BelowMarks (the_nodes nodes.now) cell at.now mask result }
-{
-    let mut below = 0;
-    for o in 0..8 {
-        if marked(mask, o) {
-            below += split_children(nodes, at[o] as usize, lower_cell(cell, o)) << (8 * o);
-        }
-    }
-    below
 }
 
 // Which children of the parent's entries the entries of child q are, eight bits for each of the parent's. As a choice, it is a table that the
@@ -144,38 +161,123 @@ fn kept_by(q: usize) -> u64
     }
 }
 
-// Whether the low corner of child q is listed, where none of its entries is split.
-fn touched(low: usize, mask: u64, q: usize) -> bool
-    requires { (q < 8) × (mask < 2 ^ 8) }
-    ensures { Decides result (Touched low mask q) }
-{
-    if low & (7 - q) != 0 {
-        return false;
+impl Cube {
+    // The low corner.
+    fn low_corner(self) -> u64
+        requires { (self.level ≤ limit) × Cell self.level self.cell }
+        ensures { result ≡ low_corner self.level self.cell }
+    {
+        self.cell << (63 - self.level * 3)
     }
-    if mask & kept_by(q) == 0 {
-        return false;
+
+    // Whether all vertices of the cell are less than a number.
+    fn passed(self, from: u64) -> bool
+        requires { (self.level ≤ limit) × Cell self.level self.cell }
+        ensures { Decides result (low_corner self.level (self.cell + 1) ≤ from) }
+    {
+        from >> (63 - self.level * 3) > self.cell
     }
-    true
+
+    // Whether the cell has nothing that is wanted and has room.
+    fn skipped(self, wanted: &Wanted, n: usize) -> bool
+        requires { (self.level ≤ limit) × Cell self.level self.cell }
+        ensures { Decides result (Skipped self.level self.cell wanted.now.from n wanted.now.room) }
+    {
+        if n >= wanted.room {
+            return true;
+        }
+        self.passed(wanted.from)
+    }
 }
 
-// The low corner of a cell.
-fn low_corner(level: u8, cell: u64) -> u64
-    requires level_le_limit { level ≤ limit }
-    requires cell { Cell level cell }
-    ensures { result ≡ low_corner level cell }
-{
-    cell << (63 - level * 3)
+impl Block {
+    // Which children of each split entry are split themselves, eight bits for each entry: it is the cell that lies that way.
+    fn split_below(&self, nodes: &Nodes) -> u64
+        requires { Small self.now.cube.cell self.now.mask × Near self.now.at }
+        ensures { BelowMarks (the_nodes nodes.now) self.now.cube.cell self.now.at self.now.mask result }
+    {
+        let mut below = 0;
+        for o in 0..8 {
+            if marked(self.mask, o) {
+                below += split_children(nodes, self.at[o] as usize, lower_cell(self.cube.cell, o))
+                    << (8 * o);
+            }
+        }
+        below
+    }
+
+    // Whether the low corner of child q is listed, where none of its entries is split.
+    fn touched(&self, q: usize) -> bool
+        requires { (q < 8) × (self.now.mask < 2 ^ 8) }
+        ensures { Decides result (Touched self.now.low self.now.mask q) }
+    {
+        if self.low & (7 - q) != 0 {
+            return false;
+        }
+        if self.mask & kept_by(q) == 0 {
+            return false;
+        }
+        true
+    }
+
+    // The place of entry o of child q.
+    fn lower_place(&self, q: usize, o: usize) -> u32
+        requires { (q < 8) × (o < 8) × Near self.now.at }
+        ensures { result ≡ lowered_place self.now.at self.now.mask q o }
+    {
+        let i = o & (7 - q);
+        if marked(self.mask, i) {
+            return self.at[i] + (q ^ o) as u32;
+        }
+        self.at[i]
+    }
+
+    // Writes the places of child q's entries, for the vertex at a place.
+    fn put_places(&self, q: usize, places: &mut [usize], n: usize)
+        requires q_bound { (q < 8) × (8 * n + 8 ≤ length places.old) }
+        requires near { Near self.now.at }
+        ensures { places.new ≡ sets places.old (8 * n) (eight (lowered_place self.now.at self.now.mask q)) }
+    {
+        for o in 0..8 {
+            places[8 * n + o] = self.lower_place(q, o) as usize;
+        }
+    }
+
+    // The same if the table has room for them.
+    fn put_round(&self, q: usize, places: &mut [usize], n: usize)
+        requires { (q < 8) × Near self.now.at }
+        ensures { RoundSays places.old n (eight (lowered_place self.now.at self.now.mask q)) places.new }
+    {
+        if n < places.len() / 8 {
+            self.put_places(q, places, n);
+        }
+    }
+
+    // The places of child q's entries, whose mask is known; of the split ones, those of their first children.
+    fn lower_at(&self, nodes: &Nodes, q: usize, mask: u64) -> [u32; 8]
+        requires { (q < 8) × Near self.now.at × Each16 nodes.now.firsts.now }
+        ensures { LoweredAt nodes.now.firsts.now self.now.at self.now.mask mask q result }
+    {
+        let mut out = [0u32; 8];
+        for o in 0..8 {
+            let place = self.lower_place(q, o);
+            if marked(mask, o) {
+                out[o] = nodes.first_at(place as usize) as u32;
+            } else {
+                out[o] = place;
+            }
+        }
+        out
+    }
 }
 
 // Writes a vertex and its level at a place, if both tables have it.
 fn put(vertices: &mut [u64], levels: &mut [u8], at: usize, vertex: u64, level: u8)
     ensures { PutSays vertices.old levels.old at vertex level vertices.new levels.new }
 {
-    if at < vertices.len() {
-        if at < levels.len() {
-            vertices[at] = vertex;
-            levels[at] = level;
-        }
+    if at < vertices.len() && at < levels.len() {
+        vertices[at] = vertex;
+        levels[at] = level;
     }
 }
 
@@ -192,153 +294,58 @@ fn has_room(len: usize, start: usize, n: usize) -> bool
     true
 }
 
-// The place of entry o of child q.
-fn lower_place(at: &[u32], mask: u64, q: usize, o: usize) -> u32
-    requires { (q < 8) × (o < 8) × Near at.now }
-    ensures { result ≡ lowered_place at.now mask q o }
-{
-    let i = o & (7 - q);
-    if marked(mask, i) {
-        return at[i] + (q ^ o) as u32;
-    }
-    at[i]
-}
-
-// Writes the places of child q's entries, for the vertex at a place.
-fn put_places(places: &mut [usize], n: usize, at: &[u32], mask: u64, q: usize)
-    requires q_bound { (q < 8) × (8 * n + 8 ≤ length places.old) }
-    requires near { Near at.now }
-    ensures { places.new ≡ sets places.old (8 * n) (eight (lowered_place at.now mask q)) }
-{
-    for o in 0..8 {
-        places[8 * n + o] = lower_place(at, mask, q, o) as usize;
-    }
-}
-
-// The same if the table has room for them.
-fn put_round(places: &mut [usize], n: usize, at: &[u32], mask: u64, q: usize)
-    requires { (q < 8) × Near at.now }
-    ensures { RoundSays places.old n (eight (lowered_place at.now mask q)) places.new }
-{
-    if n < places.len() / 8 {
-        put_places(places, n, at, mask, q);
-    }
-}
-
-// Whether all vertices of a cell are less than a number.
-fn passed(level: u8, cell: u64, from: u64) -> bool
-    requires { (level ≤ limit) × Cell level cell }
-    ensures { Decides result (low_corner level (cell + 1) ≤ from) }
-{
-    from >> (63 - level * 3) > cell
-}
-
-// Whether a cell has nothing that is wanted and has room.
-fn skipped(level: u8, cell: u64, from: u64, n: usize, room: usize) -> bool
-    requires { (level ≤ limit) × Cell level cell }
-    ensures { Decides result (Skipped level cell from n room) }
-{
-    if n >= room {
-        return true;
-    }
-    passed(level, cell, from)
-}
-
-// Writes the low corner of child q, with its level and the places round it, unless it is less than a number, each in a table that has room; the place after it.
-fn take(
-    level: u8,
-    vertex: u64,
-    from: u64,
-    at: &[u32],
-    mask: u64,
-    q: usize,
-    vertices: &mut [u64],
-    levels: &mut [u8],
-    places: &mut [usize],
-    n: usize,
-) -> usize
-    requires { (q < 8) × (n + 1 < 2 ^ 64) × Near at.now }
-    ensures { TakeSays from vertex level n (eight (lowered_place at.now mask q)) (cells_of vertices.old levels.old places.old)
-        (cells_of vertices.new levels.new places.new) result }
-{
-    if vertex < from {
-        return n;
-    }
-    put(vertices, levels, n, vertex, level);
-    put_round(places, n, at, mask, q);
-    n + 1
-}
-
-// The places of child q's entries; of the split ones, those of their first children.
-fn lower_at(nodes: &Nodes, at: &[u32], mask: u64, child: u64, q: usize) -> [u32; 8]
-    requires { (q < 8) × Near at.now × Each16 nodes.now.firsts.now }
-    ensures { LoweredAt nodes.now.firsts.now at.now mask child q result }
-{
-    let mut out = [0u32; 8];
-    for o in 0..8 {
-        let place = lower_place(at, mask, q, o);
-        if marked(child, o) {
-            out[o] = nodes.first_at(place as usize) as u32;
-        } else {
-            out[o] = place;
+impl Out<'_> {
+    // Writes the low corner of child q of a block, with its level and the places round it, unless it is less than a number, each in a table that has room;
+    // the place after it.
+    fn take(&mut self, from: u64, block: &Block, q: usize, child: Cube, n: usize) -> usize
+        requires room { (q < 8) × (n + 1 < 2 ^ 64) × Near block.now.at }
+        requires child { (child.level ≤ limit) × Cell child.level child.cell }
+        ensures same { SameOut self.old self.new }
+        ensures took { TakeSays from (low_corner child.level child.cell) child.level n (eight (lowered_place block.now.at block.now.mask q))
+            (the_cells self.old) (the_cells self.new) result }
+    {
+        let vertex = child.low_corner();
+        if vertex < from {
+            return n;
         }
+        put(self.vertices, self.levels, n, vertex, child.level);
+        block.put_round(q, self.places, n);
+        n + 1
     }
-    out
 }
 
 // Writes the wanted vertices of a divided cell from place n on, up to so many; the place after the last.
-fn gather(
-    nodes: &Nodes,
-    from: u64,
-    room: usize,
-    level: u8,
-    cell: u64,
-    at: &[u32],
-    mask: u64,
-    low: usize,
-    vertices: &mut [u64],
-    levels: &mut [u8],
-    places: &mut [usize],
-    n: usize,
-) -> usize
-    requires here { Here (the_nodes nodes.now) level cell at.now mask low }
-    requires cell_value { divided (the_nodes nodes.now) level cell ≡ true }
-    requires n_le_room { (n ≤ room) × (level < limit) × Each16 nodes.now.firsts.now }
-    ensures { Stored (the_nodes nodes.now) from room (walked (limit - level) (the_nodes nodes.now) level cell) n result
-        (cells_of vertices.old levels.old places.old) (cells_of vertices.new levels.new places.new) }
+fn gather(nodes: &Nodes, wanted: &Wanted, block: &Block, out: &mut Out, n: usize) -> usize
+    requires here { HereIn (the_nodes nodes.now) block.now }
+    requires cell_value { divided (the_nodes nodes.now) block.now.cube.level block.now.cube.cell ≡ true }
+    requires n_le_room { (n ≤ wanted.now.room) × (block.now.cube.level < limit) × Each16 nodes.now.firsts.now }
+    ensures same { SameOut out.old out.new }
+    ensures stored { Stored (the_nodes nodes.now) wanted.now.from wanted.now.room (walked (limit - block.now.cube.level) (the_nodes nodes.now) block.now.cube.level block.now.cube.cell)
+        n result (the_cells out.old) (the_cells out.new) }
 {
-    let below = split_below(nodes, cell, at, mask);
-    let deeper = level + 1;
+    let below = block.split_below(nodes);
     let mut m = n;
     for q in 0..8 {
-        let child = 8 * cell + q as u64;
-        if skipped(deeper, child, from, m, room) {
+        let child = Cube {
+            level: block.cube.level + 1,
+            cell: 8 * block.cube.cell + q as u64,
+        };
+        if child.skipped(wanted, m) {
             continue;
         }
-        let child_mask = lower_mask(below, q);
-        if child_mask == 0 {
-            if touched(low, mask, q) {
-                let vertex = low_corner(deeper, child);
-                m = take(
-                    deeper, vertex, from, at, mask, q, vertices, levels, places, m,
-                );
+        let mask = lower_mask(below, q);
+        if mask == 0 {
+            if block.touched(q) {
+                m = out.take(wanted.from, block, q, child, m);
             }
-        } else if u32::from(deeper) < morton::LIMIT {
-            let lowered = lower_at(nodes, at, mask, child_mask, q);
-            m = gather(
-                nodes,
-                from,
-                room,
-                deeper,
-                child,
-                &lowered,
-                child_mask,
-                low & (7 - q),
-                vertices,
-                levels,
-                places,
-                m,
-            );
+        } else if u32::from(child.level) < morton::LIMIT {
+            let lowered = Block {
+                cube: child,
+                at: block.lower_at(nodes, q, mask),
+                mask,
+                low: block.low & (7 - q),
+            };
+            m = gather(nodes, wanted, &lowered, out, m);
         }
     }
     m
@@ -353,24 +360,20 @@ fn root_child(firsts: &[u16]) -> u32
 }
 
 // The vertices of the whole tree from a number on, up to so many.
-fn from_root(
-    nodes: &Nodes,
-    from: u64,
-    room: usize,
-    vertices: &mut [u64],
-    levels: &mut [u8],
-    places: &mut [usize],
-) -> usize
-    ensures { Stored (the_nodes nodes.now) from room (spots_of (the_nodes nodes.now)) 0 result
-        (cells_of vertices.old levels.old places.old) (cells_of vertices.new levels.new places.new) }
+fn from_root(nodes: &Nodes, wanted: &Wanted, out: &mut Out) -> usize
+    ensures same { SameOut out.old out.new }
+    ensures stored { Stored (the_nodes nodes.now) wanted.now.from wanted.now.room (spots_of (the_nodes nodes.now)) 0 result (the_cells out.old) (the_cells out.new) }
 {
     let first = root_child(nodes.firsts);
     if nodes.leads(first as usize, 8) {
         // The root is alone in its block, and at all three sides.
-        let at = [first, 0, 0, 0, 0, 0, 0, 0];
-        return gather(
-            nodes, from, room, 0, 1, &at, 1, 7, vertices, levels, places, 0,
-        );
+        let block = Block {
+            cube: Cube { level: 0, cell: 1 },
+            at: [first, 0, 0, 0, 0, 0, 0, 0],
+            mask: 1,
+            low: 7,
+        };
+        return gather(nodes, wanted, &block, out, 0);
     }
     0
 }
@@ -380,14 +383,16 @@ fn whole(nodes: &Nodes, vertices: &mut [u64], levels: &mut [u8]) -> usize
     ensures { Laid (spots_of (the_nodes nodes.now)) 0 result vertices.old levels.old vertices.new levels.new }
 {
     let mut no_places = [0usize; 1];
-    from_root(
-        nodes,
-        0,
-        0x4000000000000000,
+    let mut out = Out {
         vertices,
         levels,
-        &mut no_places,
-    )
+        places: &mut no_places,
+    };
+    let every = Wanted {
+        from: 0,
+        room: 0x4000000000000000,
+    };
+    from_root(nodes, &every, &mut out)
 }
 
 // No tree of so many keys has more vertices, nor do tables that hold none: each vertex is one of the 19 middles of a split cell, and each split cell
@@ -462,6 +467,14 @@ pub fn cells_trusting(
         (cells_of vertices.new levels.new places.new) result }
 {
     let pairs = vertices.len().min(levels.len());
-    let room = pairs.min(places.len() / 8);
-    from_root(nodes, from, room, vertices, levels, places)
+    let wanted = Wanted {
+        from,
+        room: pairs.min(places.len() / 8),
+    };
+    let mut out = Out {
+        vertices,
+        levels,
+        places,
+    };
+    from_root(nodes, &wanted, &mut out)
 }

@@ -11,8 +11,8 @@ gather-requires c =
     let r = root_here (the_nodes c.args.nodes.now) _ first.value (sym c.leads.ensures ∙ c.if-leads.true) in
     record { here = r.0; cell_value = r.1; n_le_room = (omega arith, omega arith, first.each) }
 
-pub returns-then-leads : goal.returns-then-leads
-returns-then-leads c = root_walked _ _ _ _ _ _ c.gather.ensures
+pub returns-then-leads-clause-stored : goal.returns-then-leads-clause-stored
+returns-then-leads-clause-stored c = root_walked _ _ _ _ _ _ c.gather.ensures.stored
 
-pub returns : goal.returns
-returns c = root_alone (the_nodes c.args.nodes.now) _ c.root_child-first.ensures.value (sym c.leads.ensures ∙ c.if-leads.false) _ _ _
+pub returns-clause-stored : goal.returns-clause-stored
+returns-clause-stored c = root_alone (the_nodes c.args.nodes.now) _ c.root_child-first.ensures.value (sym c.leads.ensures ∙ c.if-leads.false) _ _ _

@@ -2,8 +2,8 @@
 use mathlib.Core.Path.{sym, ◌∙◌}
 use native.Mathlib.Omega.{arith}
 use Rattle.vertices.proofs.Marks.{marks_as, stacked_yes, stacked_no}
-use Rattle.vertices.proofs.split_below.Goals as goal
-use Rattle.vertices.proofs.split_below.Goals.{then-marked, else-marked}
+use Rattle.vertices.proofs.Block.split_below.Goals as goal
+use Rattle.vertices.proofs.Block.split_below.Goals.{then-marked, else-marked}
 
 pub loop-o-preserved : goal.loop-o-preserved
 loop-o-preserved c =

@@ -3,7 +3,7 @@ use Prim.Native.Nat.{ℕ, ◌<◌}
 use mathlib.Core.Path.{◌≡◌}
 use lib.ListN.{length, get_or}
 use Rattle.vertices.specs.Block.{lowered_at}
-use Rattle.vertices.proofs.lower_at.Given as goal
+use Rattle.vertices.proofs.Block.lower_at.Given as goal
 
 abbrev pub invariant-loop-o : goal.invariant-loop-o
-invariant-loop-o l = (length l.out ≡ 8) × ((i : ℕ) → i < l.o → get_or l.out i 0 ≡ lowered_at l.nodes.firsts.now l.at l.mask l.child l.q i)
+invariant-loop-o l = (length l.out ≡ 8) × ((i : ℕ) → i < l.o → get_or l.out i 0 ≡ lowered_at l.nodes.firsts.now l.fn.self.at l.fn.self.mask l.mask l.q i)

@@ -1,6 +1,6 @@
 -- `low_corner` meets its contract: the cell moved up is its low corner, and nothing is lost. Assumes nothing.
 use Rattle.vertices.proofs.Blocks.{shift_cell}
-use Rattle.vertices.proofs.low_corner.Goals as goal
+use Rattle.vertices.proofs.Cube.low_corner.Goals as goal
 
 pub returns : goal.returns
-returns c = shift_cell _ _ c.requires.level_le_limit c.requires.cell
+returns c = shift_cell _ _ c.requires.0 c.requires.1

@@ -2,7 +2,7 @@
 use Prim.Native.Nat.{◌*◌}
 use Rattle.vertices.specs.Block.{lowered_place}
 use Rattle.vertices.proofs.Places.{Written}
-use Rattle.vertices.proofs.put_places.Given as goal
+use Rattle.vertices.proofs.Block.put_places.Given as goal
 
 abbrev pub invariant-loop-o : goal.invariant-loop-o
-invariant-loop-o l = Written (lowered_place l.at l.mask l.q) l.o l.initial.places (8 * l.n) l.places
+invariant-loop-o l = Written (lowered_place l.fn.self.at l.fn.self.mask l.q) l.o l.initial.places (8 * l.n) l.places
