@@ -199,8 +199,8 @@ impl Block {
         let mut below = 0;
         for o in 0..8 {
             if marked(self.mask, o) {
-                below += split_children(nodes, self.at[o] as usize, lower_cell(self.cube.cell, o))
-                    << (8 * o);
+                let cell = lower_cell(self.cube.cell, o);
+                below += split_children(nodes, self.at[o] as usize, cell) << (8 * o);
             }
         }
         below

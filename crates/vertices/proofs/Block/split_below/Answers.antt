@@ -12,6 +12,6 @@ loop-o-preserved c =
       | then-marked w ↦
           rw w.below-is
           (stacked_yes _ _ _ _ l.o l.below l.invariant w.split_children.result (omega arith) (sym c.marked.ensures ∙ w.if-marked.true)
-          (marks_as w.lower_cell.ensures w.split_children.ensures))
+          (marks_as w.lower_cell-cell.ensures w.split_children.ensures))
       | else-marked w ↦ rw w.below-is (stacked_no _ _ _ _ l.o l.below l.invariant (sym c.marked.ensures ∙ w.if-marked.false))
     ]
