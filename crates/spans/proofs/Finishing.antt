@@ -181,11 +181,11 @@ module _ (n : Nodes) (s : ℕ) (small : s ≤ limit) where
 
 -- ---- the steps one after another
 
-pub prepared_at : (n : Nodes) (s nodes : ℕ) → nodes ≡ nodes_in n → s ≤ limit → (first₀ last₀ first last last' : List ℕ) → length first₀ ≡ leaves_of nodes → length last₀ ≡ leaves_of nodes
-    → first ≡ replicate (length first₀) 0 → last ≡ replicate (length last₀) 0 → SlabsPut n s nodes last last' → Prepared n s first last'
-prepared_at n s nodes e small first₀ last₀ first last last' a b f l S =
+pub prepared_at : (n : Nodes) (s many : ℕ) → many ≡ nodes_in n → s ≤ limit → (first₀ last₀ first last last' : List ℕ) → length first₀ ≡ leaves_of many
+    → length last₀ ≡ leaves_of many → first ≡ replicate (length first₀) 0 → last ≡ replicate (length last₀) 0 → SlabsPut n s many last last' → Prepared n s first last'
+prepared_at n s many e small first₀ last₀ first last last' a b f l S =
     prepared n s small first last last' (f ∙ ap (λ (m : ℕ). replicate m 0) (a ∙ ap leaves_of e)) (l ∙ ap (λ (m : ℕ). replicate m 0) (b ∙ ap leaves_of e))
-    (subst (λ (nodes : ℕ). SlabsPut n s nodes last last') e S)
+    (subst (λ (many : ℕ). SlabsPut n s many last last') e S)
 
 module _ (n : Nodes) (s nodes : ℕ) (e : nodes ≡ nodes_in n) (small : s ≤ limit) (first₀ last₀ first last words zeros : List ℕ) (r : ℕ) (P : Prepared n s first₀ last₀)
     (W₀ : Widens nodes (places_of n (spots_of n)) first₀ last₀ first last) (G₀ : Gathered n.firsts nodes (first ++ last) first words r)

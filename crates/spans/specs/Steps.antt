@@ -101,10 +101,6 @@ pub record Widens (nodes : ℕ) (more first last first' last' : List ℕ) : Type
   pub spans : (height : ℕ → ℕ) (places : List ℕ) (cells : ℕ) → length places ≡ 8 * cells → Spanned nodes height places first last
       → Spanned nodes height (places ++ more) first' last'
 
--- After a full batch the vertices go on from the last one + 1.
-abbrev pub NextFrom : List ℕ → ℕ → ℕ → Type 0
-NextFrom vertices came r = ((came ≡ 128) × (r ≡ get_or vertices 127 0 + 1)) ⊎ ((came ≡ 128 → ⊥) × (r ≡ 0))
-
 -- Before any cell.
 pub record Prepared (n : Nodes) (s : ℕ) (first last : List ℕ) : Type 0 where
   pub ready : Ready (nodes_in n) first last

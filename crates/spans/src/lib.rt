@@ -1,14 +1,15 @@
 #![tactic(auto)]
 // From which slab to which slab each leaf of a tree is needed, over all its dual cells. Ours: the Rust frees nothing.
-ghost use Rattle.std.specs.Prelude.{◌≡◌, List, ◌++◌, ◌+◌, ◌*◌, ◌/◌, ◌^◌, ◌<◌, ◌≤◌, min, length, get_or, take, replicate};
+ghost use Rattle.std.specs.Prelude.{◌≡◌, List, ◌++◌, ◌+◌, ◌*◌, ◌/◌, ◌^◌, ◌<◌, ◌≤◌, ◌%◌, min, ℕ, length, get_or};
 ghost use Rattle.morton.specs.Level.{limit};
-ghost use Rattle.tree.specs.Down.{nodes_of};
+ghost use Rattle.tree.specs.Down.{the_nodes};
 ghost use Rattle.vertices.specs.Walk.{spots_of};
 ghost use Rattle.vertices.specs.Cells.{places_of};
 ghost use Rattle.spans.specs.Trusted.{nodes_in, leaves_of, four_of, TrustedSpans, SpansSays};
-ghost use Rattle.spans.specs.Steps.{Small, Raised, own, SlabsPut, SmallSlabs, Ready, Reach, RaiseSays, AllRaised, Inside, AllSmall, Widens, NextFrom, Prepared, Takes, Gathered, AllUnpacked};
+ghost use Rattle.spans.specs.Steps.{Small, Raised, own, SlabsPut, SmallSlabs, Ready, Reach, RaiseSays, AllRaised, Inside, AllSmall, Widens, Prepared, Takes, Gathered, AllUnpacked};
 
 use refusals::Refusal;
+use tree::Nodes;
 
 // No sound tree has more than 65,537 nodes, so no more are looked at.
 fn nodes_in(length: usize) -> usize
@@ -41,28 +42,28 @@ const UPPER: u32 = 65536;
 const TOP_BITS: u32 = 2147516416;
 
 // Takes down the slab of each four siblings.
-fn put_slabs(keys: &[u64], firsts: &[u16], nodes: usize, exponent: u32, last: &mut [u32])
-    requires { (nodes ≡ nodes_in (nodes_of keys.now firsts.now)) × (exponent ≤ limit) × (length last.old ≡ leaves_of nodes) }
-    ensures { SlabsPut (nodes_of keys.now firsts.now) exponent nodes last.old last.new }
+fn put_slabs(nodes: &Nodes, many: usize, exponent: u32, last: &mut [u32])
+    requires { (many ≡ nodes_in (the_nodes nodes.now)) × (exponent ≤ limit) × (length last.old ≡ leaves_of many) }
+    ensures { SlabsPut (the_nodes nodes.now) exponent many last.old last.new }
 {
-    let over = nodes - last.len();
-    if nodes > 0 {
-        last[over] = slabs::slab_at(keys[0], exponent);
+    let over = many - last.len();
+    if many > 0 {
+        last[over] = slabs::slab_at(nodes.keys[0], exponent);
     }
-    for place in (1..nodes).step_by(4) {
-        last[over + (place + 3) / 4] = slabs::slab_at(keys[place], exponent);
+    for place in (1..many).step_by(4) {
+        last[over + (place + 3) / 4] = slabs::slab_at(nodes.keys[place], exponent);
     }
 }
 
 // ---- the cells
 
 // From which slab to which the nodes of four places of a table lie; as in a node's word.
-fn reach_of_four(nodes: usize, last: &[u32], places: &[usize], from: usize) -> u32
-    requires last_len { (length last.now ≡ leaves_of nodes) × (from + 4 ≤ length places.now) × Inside nodes places.now }
-    requires small_slabs { SmallSlabs nodes last.now }
-    ensures { Reach (own nodes last.now) places.now from 4 result }
+fn reach_of_four(many: usize, last: &[u32], places: &[usize], from: usize) -> u32
+    requires last_len { (length last.now ≡ leaves_of many) × (from + 4 ≤ length places.now) × Inside many places.now }
+    requires small_slabs { SmallSlabs many last.now }
+    ensures { Reach (own many last.now) places.now from 4 result }
 {
-    let over = nodes - last.len();
+    let over = many - last.len();
     let mut low = HIGHEST;
     let mut high: u32 = 0;
     for o in 0..4 {
@@ -85,14 +86,14 @@ fn raised(a: u32, b: u32) -> u32
 }
 
 // The same of a cell: its nodes below the vertex and those above it, since of a longer row of comparisons the compiler makes branches too.
-fn reach_of_cell(nodes: usize, last: &[u32], places: &[usize], at: usize) -> u32
-    requires last_len { (length last.now ≡ leaves_of nodes) × (8 * at + 8 ≤ length places.now) × Inside nodes places.now }
-    requires small_slabs { SmallSlabs nodes last.now }
-    ensures { Reach (own nodes last.now) places.now (8 * at) 8 result }
+fn reach_of_cell(many: usize, last: &[u32], places: &[usize], at: usize) -> u32
+    requires last_len { (length last.now ≡ leaves_of many) × (8 * at + 8 ≤ length places.now) × Inside many places.now }
+    requires small_slabs { SmallSlabs many last.now }
+    ensures { Reach (own many last.now) places.now (8 * at) 8 result }
 {
     raised(
-        reach_of_four(nodes, last, places, 8 * at),
-        reach_of_four(nodes, last, places, 8 * at + 4),
+        reach_of_four(many, last, places, 8 * at),
+        reach_of_four(many, last, places, 8 * at + 4),
     )
 }
 
@@ -113,13 +114,13 @@ fn raise(first: &mut [u32], last: &mut [u32], place: usize, reach: u32)
 fn raise_all(
     first: &mut [u32],
     last: &mut [u32],
-    nodes: usize,
+    many: usize,
     places: &[usize],
     at: usize,
     reach: u32,
 )
-    requires ready { Ready nodes first.old last.old × Small reach }
-    requires at_in_bounds { (8 * at + 8 ≤ length places.now) × Inside nodes places.now }
+    requires ready { Ready many first.old last.old × Small reach }
+    requires at_in_bounds { (8 * at + 8 ≤ length places.now) × Inside many places.now }
     ensures { AllRaised places.now at 8 reach first.old last.old first.new last.new }
 {
     for o in 0..8 {
@@ -128,50 +129,43 @@ fn raise_all(
 }
 
 // Goes over some cells, whose eight places each stand in a table.
-fn widen(nodes: usize, first: &mut [u32], last: &mut [u32], places: &[usize])
-    requires { Ready nodes first.old last.old × Inside nodes places.now }
-    ensures { Widens nodes (take (8 * (length places.now / 8)) places.now)
-        first.old last.old first.new last.new }
+fn widen(many: usize, first: &mut [u32], last: &mut [u32], places: &[usize])
+    requires ready { Ready many first.old last.old }
+    requires whole_cells { (length places.now % 8 ≡ 0) × Inside many places.now }
+    ensures { Widens many places.now first.old last.old first.new last.new }
 {
     for at in 0..places.len() / 8 {
-        let reach = reach_of_cell(nodes, last, places, at);
-        raise_all(first, last, nodes, places, at, reach);
+        let reach = reach_of_cell(many, last, places, at);
+        raise_all(first, last, many, places, at, reach);
     }
 }
 
-// From where the vertices go on after a full batch; after another there are none.
-fn next_from(vertices: &[u64], came: usize) -> u64
-    requires { (length vertices.now ≡ 128) × (came ≡ 128 → get_or vertices.now 127 0 + 1 < 2 ^ 64) }
-    ensures { NextFrom vertices.now came result }
-{
-    if came == 128 {
-        return vertices[127] + 1;
-    }
-    0
-}
+// Does nothing: of a slice in a struct no proof knows how large its numbers are, of a parameter it does.
+fn have_16_bits(firsts: &[u16])
+    ensures { (i : ℕ) → get_or firsts.now i 0 < 2 ^ 16 }
+{}
 
-// Goes over the cells of all vertices, 128 at a time: so many that beginning anew at the root costs little, and so few that they fit on the stack.
-fn go_over(keys: &[u64], firsts: &[u16], nodes: usize, first: &mut [u32], last: &mut [u32])
-    requires { (nodes ≡ nodes_in (nodes_of keys.now firsts.now)) × Ready nodes first.old last.old }
-    ensures { Widens nodes (places_of (nodes_of keys.now firsts.now) (spots_of (nodes_of keys.now firsts.now)))
+// How many vertices are asked for at a time: so many that beginning anew at the root costs little, and so few that they fit on the stack.
+const BATCH: usize = 128;
+
+// Goes over the cells of all vertices.
+fn go_over(nodes: &Nodes, many: usize, first: &mut [u32], last: &mut [u32])
+    requires { (many ≡ nodes_in (the_nodes nodes.now)) × Ready many first.old last.old }
+    ensures { Widens many (places_of (the_nodes nodes.now) (spots_of (the_nodes nodes.now)))
         first.old last.old first.new last.new }
 {
-    let mut vertices = [0u64; 128];
-    let mut levels = [0u8; 128];
-    let mut places = [0usize; 1024];
+    let mut vertices = [0u64; BATCH];
+    let mut levels = [0u8; BATCH];
+    let mut places = [0usize; 8 * BATCH];
     let mut from: u64 = 0;
-    let mut came: usize = 128;
-    while came == 128 {
-        came = vertices::cells_trusting(
-            keys,
-            firsts,
-            from,
-            &mut vertices,
-            &mut levels,
-            &mut places,
-        );
-        widen(nodes, first, last, &places[..8 * came]);
-        from = next_from(&vertices, came);
+    have_16_bits(nodes.firsts);
+    loop {
+        let came = vertices::cells_trusting(nodes, from, &mut vertices, &mut levels, &mut places);
+        widen(many, first, last, &places[..8 * came]);
+        if came < BATCH {
+            return;
+        }
+        from = vertices[BATCH - 1] + 1;
     }
 }
 
@@ -202,14 +196,14 @@ fn take_over(first: &mut [u32], number: usize, word: u32, child: usize) -> usize
 }
 
 // The leaves' words in the order of the leaves; how many there are.
-fn gather(firsts: &[u16], nodes: usize, first: &mut [u32], last: &[u32]) -> usize
-    requires { (length first.old ≡ leaves_of nodes) × (length last.now ≡ leaves_of nodes) }
-    ensures { Gathered firsts.now nodes (first.old ++ last.now) first.old first.new result }
+fn gather(nodes: &Nodes, many: usize, first: &mut [u32], last: &[u32]) -> usize
+    requires { (length first.old ≡ leaves_of many) × (length last.now ≡ leaves_of many) }
+    ensures { Gathered nodes.now.firsts.now many (first.old ++ last.now) first.old first.new result }
 {
     let mut number: usize = 0;
-    for place in 0..nodes {
+    for place in 0..many {
         let word = word_at(first, last, place);
-        number = take_over(first, number, word, tree::first_at(firsts, place));
+        number = take_over(first, number, word, nodes.first_at(place));
     }
     number
 }
@@ -236,68 +230,47 @@ fn unpack(first: &mut [u32], last: &mut [u32])
 // ---- the call
 
 // The memory before any cell.
-fn prepare(
-    keys: &[u64],
-    firsts: &[u16],
-    nodes: usize,
-    exponent: u32,
-    first: &mut [u32],
-    last: &mut [u32],
-)
-    requires nodes_value { (nodes ≡ nodes_in (nodes_of keys.now firsts.now)) × (exponent ≤ limit) }
-    requires first_len { (length first.old ≡ leaves_of nodes) × (length last.old ≡ leaves_of nodes) }
-    ensures { Prepared (nodes_of keys.now firsts.now) exponent first.new last.new }
+fn prepare(nodes: &Nodes, many: usize, exponent: u32, first: &mut [u32], last: &mut [u32])
+    requires many_value { (many ≡ nodes_in (the_nodes nodes.now)) × (exponent ≤ limit) }
+    requires first_len { (length first.old ≡ leaves_of many) × (length last.old ≡ leaves_of many) }
+    ensures { Prepared (the_nodes nodes.now) exponent first.new last.new }
 {
     first.fill(0);
     last.fill(0);
-    put_slabs(keys, firsts, nodes, exponent, last);
+    put_slabs(nodes, many, exponent, last);
 }
 
 // The spans, in tables that are as long as there are leaves.
-fn spans_in(
-    keys: &[u64],
-    firsts: &[u16],
-    nodes: usize,
-    exponent: u32,
-    first: &mut [u32],
-    last: &mut [u32],
-)
-    requires nodes_value { (nodes ≡ nodes_in (nodes_of keys.now firsts.now)) × (exponent ≤ limit) }
-    requires first_len { (length first.old ≡ leaves_of nodes) × (length last.old ≡ leaves_of nodes) }
-    ensures { TrustedSpans (nodes_of keys.now firsts.now) exponent first.new last.new }
+fn spans_in(nodes: &Nodes, exponent: u32, first: &mut [u32], last: &mut [u32])
+    requires small_exponent { exponent ≤ limit }
+    requires first_len { length first.old ≡ leaves_of (nodes_in (the_nodes nodes.now)) }
+    requires last_len { length last.old ≡ leaves_of (nodes_in (the_nodes nodes.now)) }
+    ensures { TrustedSpans (the_nodes nodes.now) exponent first.new last.new }
 {
-    prepare(keys, firsts, nodes, exponent, first, last);
-    go_over(keys, firsts, nodes, first, last);
-    let leaves = gather(firsts, nodes, first, last);
+    let many = nodes_in(nodes.keys.len());
+    prepare(nodes, many, exponent, first, last);
+    go_over(nodes, many, first, last);
+    let leaves = gather(nodes, many, first, last);
     first[leaves..].fill(0);
     unpack(first, last);
 }
 
 // First and last slab of each leaf. Refused, with both tables as they were, where the exponent is above 15, or else where a table has no place for each leaf.
 pub fn spans(
-    keys: &[u64],
-    firsts: &[u16],
+    nodes: &Nodes,
     exponent: u32,
     first: &mut [u32],
     last: &mut [u32],
 ) -> Result<(), Refusal>
-    ensures { SpansSays (nodes_of keys.now firsts.now) exponent
-        first.old last.old first.new last.new result }
+    ensures { SpansSays (the_nodes nodes.now) exponent first.old last.old first.new last.new result }
 {
     if exponent > morton::LIMIT {
         return Err(Refusal::AboveFifteen);
     }
-    let leaves = leaves_in(keys.len());
+    let leaves = leaves_in(nodes.keys.len());
     if first.len() < leaves || last.len() < leaves {
         return Err(Refusal::ReportShort);
     }
-    spans_in(
-        keys,
-        firsts,
-        nodes_in(keys.len()),
-        exponent,
-        &mut first[..leaves],
-        &mut last[..leaves],
-    );
+    spans_in(nodes, exponent, &mut first[..leaves], &mut last[..leaves]);
     Ok(())
 }

@@ -1,75 +1,60 @@
 -- `go_over` meets its contract: batch after batch, until one isn't full. Assumes nothing.
-use Prim.Native.Nat.{◌≤◌}
-use mathlib.Core.Path.{refl, sym, ◌∙◌}
+use Prim.Native.Nat.{◌*◌, ◌≤◌}
+use mathlib.Core.Path.{◌≡◌, refl, sym, ◌∙◌}
 use native.Mathlib.Omega.{arith}
+use lib.ListN.{length, length-take}
 use lib.Seq.{length-take-le}
-use Rattle.vertices.specs.Cells.{cells_of}
-use Rattle.spans.proofs.Going.{going_none, going_all, Sized, at_most, batch_inside, next_fits, going_less, going_more}
+use Rattle.spans.proofs.Going.{going_none, at_most, batch_inside, next_fits, fewer, going_more, going_all}
 use Rattle.spans.proofs.go_over.Goals as goal
+use Rattle.spans.proofs.go_over.Goals.{After-cells_trusting-came}
 
-pub loop-came-init : goal.loop-came-init
-loop-came-init c = ((refl, refl, refl), going_none _ _ _ _ c.requires.1)
+pub loop-vertices-init : goal.loop-vertices-init
+loop-vertices-init c = record { sized = (refl, refl, refl); going = going_none _ _ _ _ c.requires.1 }
 
--- once a batch has come: w is what `cells_trusting` left
+places_long : (c : After-cells_trusting-came) → length c.cells_trusting-came.new.places ≡ 1024
+places_long c = c.cells_trusting-came.auto.places ∙ c.loop-vertices.invariant.sized.2
+
+few : (c : After-cells_trusting-came) → c.cells_trusting-came.result ≤ 128
+few c = let k = c.loop-vertices.invariant in at_most k.going _ _ k.sized c.cells_trusting-came.ensures
+
 pub overflow_mul-places : goal.overflow_mul-places
-overflow_mul-places c =
-    let l = c.loop-came in
-    let w = c.cells_trusting-came in
-    let few : w.result ≤ 128 = at_most l.invariant.1 c.loop-came-test.true _ _ l.invariant.0 w.ensures in
-    record { fits = omega (arith, few) }
+overflow_mul-places c = record { fits = omega (arith, few (goal.at.overflow_mul-places c).After-cells_trusting-came) }
 
 pub slice_bounds-places-end : goal.slice_bounds-places-end
 slice_bounds-places-end c =
-    let l = c.loop-came in
-    let w = c.cells_trusting-came in
-    let sized : Sized (cells_of w.new.vertices w.new.levels w.new.places) = (w.auto.vertices ∙ l.invariant.0.0, w.auto.levels ∙ l.invariant.0.1, w.auto.places ∙ l.invariant.0.2) in
-    let few : w.result ≤ 128 = at_most l.invariant.1 c.loop-came-test.true _ _ l.invariant.0 w.ensures in
-    omega (arith, few, sized.2)
+    let w = (goal.at.slice_bounds-places-end c).After-cells_trusting-came in omega (arith, few w, places_long w)
 
 pub slice_bounds-widen-end : goal.slice_bounds-widen-end
 slice_bounds-widen-end c =
-    let l = c.loop-came in
+    let w = (goal.at.slice_bounds-widen-end c).After-cells_trusting-came in sym (length-take-le _ _ (omega (arith, few w, places_long w)))
+
+pub widen-requires-clause-whole_cells : goal.widen-requires-clause-whole_cells
+widen-requires-clause-whole_cells c =
+    let k = c.loop-vertices.invariant in
+    let w = (goal.at.widen-requires-clause-whole_cells c).After-cells_trusting-came in (
+      omega (arith, few w, places_long w, length-take (8 * c.cells_trusting-came.result) c.cells_trusting-came.new.places),
+      batch_inside k.going _ _ k.sized c.cells_trusting-came.ensures c.have_16_bits.ensures c.requires.0,
+    )
+
+pub returns-then-came-lt-BATCH : goal.returns-then-came-lt-BATCH
+returns-then-came-lt-BATCH c =
+    let k = c.loop-vertices.invariant in
+    going_all k.going _ _ k.sized c.cells_trusting-came.ensures c.widen.ensures c.if-came-lt-BATCH.true
+
+pub overflow_add-from : goal.overflow_add-from
+overflow_add-from c =
+    let k = c.loop-vertices.invariant in
+    record { fits = next_fits k.going _ _ k.sized c.cells_trusting-came.ensures c.if-came-lt-BATCH.false }
+
+pub loop-vertices-smaller : goal.loop-vertices-smaller
+loop-vertices-smaller c =
+    let k = c.loop-vertices.invariant in fewer k.going _ _ k.sized c.cells_trusting-came.ensures c.if-came-lt-BATCH.false
+
+pub loop-vertices-preserved : goal.loop-vertices-preserved
+loop-vertices-preserved c =
+    let k = c.loop-vertices.invariant in
     let w = c.cells_trusting-came in
-    let sized : Sized (cells_of w.new.vertices w.new.levels w.new.places) = (w.auto.vertices ∙ l.invariant.0.0, w.auto.levels ∙ l.invariant.0.1, w.auto.places ∙ l.invariant.0.2) in
-    let few : w.result ≤ 128 = at_most l.invariant.1 c.loop-came-test.true _ _ l.invariant.0 w.ensures in
-    sym (length-take-le _ _ (omega (arith, few, sized.2)))
-
-pub widen-requires : goal.widen-requires
-widen-requires c =
-    let l = c.loop-came in
-    let w = c.cells_trusting-came in
-    (l.invariant.1.widens.ready, batch_inside l.invariant.1 c.loop-came-test.true _ _ l.invariant.0 w.ensures (λ i. (c.shared_slice_known-2-1.given i).fits) c.requires.0)
-
-pub slice_bounds-next_from-end : goal.slice_bounds-next_from-end
-slice_bounds-next_from-end c =
-    let l = c.loop-came in
-    let w = c.cells_trusting-came in
-    sym (w.auto.vertices ∙ l.invariant.0.0)
-
-pub next_from-from-requires : goal.next_from-from-requires
-next_from-from-requires c =
-    let l = c.loop-came in
-    let w = c.cells_trusting-came in
-    (w.auto.vertices ∙ l.invariant.0.0, next_fits l.invariant.1 c.loop-came-test.true _ _ l.invariant.0 w.ensures)
-
-pub loop-came-smaller : goal.loop-came-smaller
-loop-came-smaller c =
-    let l = c.loop-came in
-    let w = c.cells_trusting-came in
-    going_less l.invariant.1 c.loop-came-test.true _ _ l.invariant.0 w.ensures c.next_from-from.ensures
-
-pub loop-came-preserved : goal.loop-came-preserved
-loop-came-preserved c =
-    let l = c.loop-came in
-    let w = c.cells_trusting-came in
-    let sized : Sized (cells_of w.new.vertices w.new.levels w.new.places) = (w.auto.vertices ∙ l.invariant.0.0, w.auto.levels ∙ l.invariant.0.1, w.auto.places ∙ l.invariant.0.2) in
-    (sized, going_more l.invariant.1 c.loop-came-test.true _ _ l.invariant.0 w.ensures c.next_from-from.ensures sized.2 _ refl c.widen.ensures)
-
-pub shape_of-first : goal.shape_of-first
-shape_of-first c = c.loop-came.invariant.1.widens.ready.first_long ∙ sym c.requires.1.first_long
-
-pub shape_of-last : goal.shape_of-last
-shape_of-last c = c.loop-came.invariant.1.widens.ready.last_long ∙ sym c.requires.1.last_long
-
-pub returns : goal.returns
-returns c = going_all c.loop-came.invariant.1 c.loop-came-test.false
+    record {
+      sized = (w.auto.vertices ∙ k.sized.0, w.auto.levels ∙ k.sized.1, w.auto.places ∙ k.sized.2);
+      going = going_more k.going _ _ k.sized w.ensures c.widen.ensures c.if-came-lt-BATCH.false;
+    }

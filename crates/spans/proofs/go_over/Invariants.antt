@@ -1,11 +1,16 @@
 -- What the loop of `go_over` keeps, and how it ends.
-use Rattle.tree.specs.Down.{nodes_of}
-use Rattle.vertices.specs.Cells.{cells_of}
-use Rattle.spans.proofs.Going.{Going, to_go, Sized}
+use lib.ListN.{length}
+use Rattle.tree.specs.Down.{the_nodes}
+use Rattle.vertices.specs.Walk.{spots_of}
+use Rattle.vertices.specs.Cells.{since, cells_of}
+use Rattle.spans.proofs.Going.{Going, Sized}
 use Rattle.spans.proofs.go_over.Given as goal
 
-abbrev pub invariant-loop-came : goal.invariant-loop-came
-invariant-loop-came l = Sized (cells_of l.vertices l.levels l.places) × Going (nodes_of l.keys l.firsts) l.nodes l.initial.first l.initial.last l.first l.last l.from l.came
+abbrev pub invariant-loop-vertices : goal.invariant-loop-vertices
+invariant-loop-vertices l = record {
+  sized : Sized (cells_of l.vertices l.levels l.places);
+  going : Going (the_nodes l.nodes) l.many l.initial.first l.initial.last l.first l.last l.from;
+}
 
-abbrev pub decreases-loop-came : goal.decreases-loop-came
-decreases-loop-came l = to_go (nodes_of l.keys l.firsts) l.from l.came
+abbrev pub decreases-loop-vertices : goal.decreases-loop-vertices
+decreases-loop-vertices l = length (since l.from (spots_of (the_nodes l.nodes)))

@@ -1,10 +1,10 @@
 -- `prepare` meets its contract. Assumes nothing.
 use Rattle.std.proofs.Common.{rules}
-use Rattle.tree.specs.Down.{nodes_of}
+use Rattle.tree.specs.Down.{the_nodes}
 use Rattle.spans.proofs.Finishing.{prepared_at}
 use Rattle.spans.proofs.prepare.Goals as goal
 
 pub returns : goal.returns
 returns c =
-    prepared_at (nodes_of c.args.keys.now c.args.firsts.now) _ _ c.requires.nodes_value.0 c.requires.nodes_value.1 c.args.first.now c.args.last.now _ _ _
+    prepared_at (the_nodes c.args.nodes.now) _ _ c.requires.many_value.0 c.requires.many_value.1 c.args.first.now c.args.last.now _ _ _
     c.requires.first_len.0 c.requires.first_len.1 (search rules) (search rules) c.put_slabs.ensures

@@ -4,4 +4,4 @@ use Rattle.spans.proofs.Yet.{Reaching}
 use Rattle.spans.proofs.reach_of_four.Given as goal
 
 abbrev pub invariant-loop-o : goal.invariant-loop-o
-invariant-loop-o l = Reaching (own l.nodes l.last) l.places l.from l.o l.low l.high
+invariant-loop-o l = Reaching (own l.many l.last) l.places l.from l.o l.low l.high
