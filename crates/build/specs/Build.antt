@@ -6,6 +6,7 @@ use Rattle.morton.specs.Level.{limit, level, is_cell}
 use Rattle.morton.specs.Field.{coord}
 use Rattle.morton.specs.Split.{splits}
 use Rattle.refusals.specs.declared.Refusal.{Refusal}
+use Rattle.refusals.specs.Refusals.{number}
 use Rattle.refusals.specs.declared.Refusal.TheVariants.{AboveFifteen, NodesFull, LeavesFull, QueueFull, NothingAsked, NotFitting, NotFinite}
 use Rattle.build.specs.declared.Tables as lent
 use Rattle.build.specs.declared.Lengths.{Lengths}
@@ -142,6 +143,11 @@ refusal_at s z next split d room top =
 unfoldable pub refusal_of : State → Bool → Float → Tables → Result ⊤ Refusal
 refusal_of s split d t =
     refusal_at s (lengths_of t) (item_at t.queue s.nodes) split d (node_room (lengths_of t)) (finest s.bound)
+
+-- The number that is given for no, 0 where the call is allowed.
+abbrev pub number_of : Result ⊤ Refusal → ℕ
+number_of (Ok u) = 0
+number_of (Err e) = number e
 
 -- ---- what an accepted distance does
 

@@ -12,7 +12,7 @@ use Rattle.build.specs.declared.Request.{Request}
 use Rattle.build.specs.declared.State.{State}
 use Rattle.build.specs.declared.Answer.{Answer}
 use Rattle.build.specs.declared.Answer.TheVariants.{Ask, Finished, Refused}
-use Rattle.build.specs.Build.{Tables, Outcome, outcome, lengths_of, node_room, distance_of, start_of}
+use Rattle.build.specs.Build.{Tables, Outcome, outcome, lengths_of, node_room, distance_of, start_of, start_at}
 use Rattle.demands.specs.Run.{Run}
 use Rattle.demands.specs.Run.Run.{started, asked, finished}
 use Rattle.demands.proofs.Call.{distance_ends}
@@ -22,7 +22,7 @@ use Rattle.counting.proofs.Bytes.{take_distances, after_finished, after_refused}
 
 -- a start finishes nothing
 start_unfinished : (bound : ℕ) (t : Tables) (s : State) → start_of bound t ≡ Finished s → ⊥
-unfolding start_of
+unfolding start_of start_at
 start_unfinished bound t s = go (ltb limit bound) _ _
   where
     go : (b : Bool) (q : Request) (x : State) → cond b (Refused 5) (Ask q x) ≡ Finished s → ⊥

@@ -7,6 +7,7 @@ use native.Mathlib.Omega.{arith}
 use lib.Ieee.{Float}
 use lib.ListN.{length, get_or, take, drop, length-append}
 use lib.Seq.{drop-length, get_or-take, get_or-drop}
+use Rattle.std.specs.Prelude.{Ok}
 use Rattle.tree.specs.Tree.{Tree, Ascending, Sound}
 use Rattle.tree.specs.Down.{Nodes}
 use Rattle.tree.proofs.Finding.{nodes}
@@ -18,7 +19,6 @@ use Rattle.vertices.proofs.Law.{spots_listed}
 use Rattle.vertices.proofs.Storing.{places_append, places_length, all_wanted}
 use Rattle.vertices.proofs.Rounds.{cells_right}
 use Rattle.vertices.proofs.Batches.{spots_ascending, Gone, gone_begun, from_fits, since_ahead, came_count, came_vertices, came_levels, came_places, gone_full, all_came}
-use Rattle.dual.specs.declared.Tried.TheVariants.{Keys}
 use Rattle.dual.specs.Dual.{DualCell}
 use Rattle.dual.proofs.Filling.{answer_at, dual_inside, trusting_dual}
 use Rattle.demands.specs.Batches.{CellAt, OfEachCall, with_batch, Batches, OfFullBatches, OfAllBatches, AllCells, OfSoundTreesInBatches}
@@ -94,7 +94,7 @@ pub places_inside : (ks : Nodes) (from : ℕ) (was left : Cells) (n : ℕ) → C
 places_inside ks from was left n says i h =
     let (keys, distances, tried, answer) = of_each_call ks from was left n says (i / 8) (omega arith) [] in
     subst (λ (p : ℕ). (p ≡ 0) ⊎ (p < length ks.keys)) (place_of i left)
-    (⊎_elim (λ z. inl z.1) (λ z. inr z.1) (dual_inside ks [] _ _ keys distances (places_at (i / 8) left.places) (Keys tried) answer (i % 8) (omega arith)))
+    (⊎_elim (λ z. inl z.1) (λ z. inr z.1) (dual_inside ks [] _ _ keys distances (places_at (i / 8) left.places) (Ok tried) answer (i % 8) (omega arith)))
 
 -- one call with room for just all of them
 one_call : (ks : Nodes) → CellsSays ks 0 (cells_at ks (spots_of ks)) (cells_at ks (spots_of ks)) (length (spots_of ks))
@@ -174,7 +174,7 @@ module _ (t : Tree) (S : Sound t) where
   cell j h =
       let (keys, distances, tried, says) = each_cell (nodes t) j h t.distances in
       let word = (cells_right (nodes t) 0 got got (length (spots_of (nodes t))) (one_call (nodes t)) j (omega (arith, vertices_length (spots_of (nodes t))))).word in
-      (keys, distances, tried, (trusting_dual t S _ _ word keys distances (places_at j got.places) (Keys tried) says).3)
+      (keys, distances, tried, (trusting_dual t S _ _ word keys distances (places_at j got.places) (Ok tried) says).3)
 
   inside : (i : ℕ) → i < length got.places → get_or got.places i 0 < length t.keys
   inside i h =

@@ -10,10 +10,13 @@ use lib.ListN.{length}
 use lib.Ieee.{Float}
 use lib.Ieee.Scale.{finite}
 use borrow.Author.Tests.{eq-eqb, ne_eqb, le-leb, lt-leb}
+use Rattle.std.specs.Prelude.{Result, Err, ⊤}
+use Rattle.refusals.specs.declared.Refusal.{Refusal}
+use Rattle.refusals.specs.declared.Refusal.TheVariants.{QueueFull, LeavesFull, NothingAsked, NotFinite, NodesFull, NotFitting}
+use Rattle.refusals.specs.Refusals.{number}
 use Rattle.morton.specs.Level.{limit, level, Cell}
 use Rattle.build.specs.declared.State.{State}
-use Rattle.build.specs.declared.Answer.TheVariants.{Refused}
-use Rattle.build.specs.Build.{Tables, Outcome, lengths_of, node_room, finest, item_at, cell_to, same_lengths, counts_fit, idle_fits, busy_fits, fits_at, fits, full_of, refusal_at, refusal_of, split_of, distance_of}
+use Rattle.build.specs.Build.{number_of, allowed, Tables, Outcome, lengths_of, node_room, finest, item_at, cell_to, same_lengths, counts_fit, idle_fits, busy_fits, fits_at, fits, full_of, refusal_at, refusal_of, split_of, distance_of}
 use Rattle.build.proofs.Laws.{to_cell, refused}
 use Rattle.geometry.specs.Grid.{Cells, Covers}
 use Rattle.demands.specs.Run.{leaf_keys, items_from, waiting, open_cells}
@@ -21,7 +24,7 @@ use Rattle.demands.proofs.Growth.{grown_count}
 use Rattle.demands.proofs.Cover.{cells_right, grown_covers}
 use Rattle.demands.proofs.Rule.{finest_deep}
 use Rattle.demands.proofs.Items.{length_items}
-use Rattle.demands.proofs.Call.{refused_number}
+use Rattle.demands.proofs.Call.{refused_why}
 use Rattle.demands.proofs.Trace.{Traced, open_none, open_asked, nodes_count, leaves_count}
 
 module _ {bound : ℕ} {lent : Tables} {given : List Float} (s : State) (t : Tables) (h : Traced bound lent given s t) where
@@ -98,54 +101,59 @@ module _ {bound : ℕ} {lent : Tables} {given : List Float} (s : State) (t : Tab
 
 -- ---- a call on a state that fits
 
-cond_most : (b : Bool) (x y n : ℕ) → x ≤ n → y ≤ n → cond b x y ≤ n
-cond_most true x y n h l = h
-cond_most false x y n h l = l
+no_more : (b : Bool) (k : Refusal) (n : ℕ) → number k ≤ n → number_of (cond b (Err k) allowed) ≤ n
+no_more true k n h = h
+no_more false k n h = omega arith
 
-pub full_most : (s : State) (split : Bool) → full_of s split ≤ 8
+pub full_most : (s : State) (split : Bool) → number_of (full_of s split) ≤ 8
 unfolding full_of
-full_most s true = cond_most (ltb s.lengths.queue (7 * s.nodes - 8 * s.leaves + 8)) 8 0 8 (omega arith) (omega arith)
-full_most s false = cond_most (eqb s.leaves s.lengths.leaves) 7 0 8 (omega arith) (omega arith)
+full_most s true = no_more (ltb s.lengths.queue (7 * s.nodes - 8 * s.leaves + 8)) QueueFull 8 (omega arith)
+full_most s false = no_more (eqb s.leaves s.lengths.leaves) LeavesFull 8 (omega arith)
 
-refusal_not_10 : (s : State) (split : Bool) (d : Float) (t : Tables) → fits s t ≡ true → refusal_of s split d t ≡ 10 → ⊥
+-- what has another number is another refusal
+pub not_so : (b : Result ⊤ Refusal) (k : Refusal) → (number_of b ≡ number k → ⊥) → b ≡ Err k → ⊥
+not_so b k n e = n (ap number_of e)
+
+refusal_not_10 : (s : State) (split : Bool) (d : Float) (t : Tables) → fits s t ≡ true → refusal_of s split d t ≡ Err NotFitting → ⊥
 unfolding fits refusal_of refusal_at
 refusal_not_10 s split d t e = rw e (go (eqb s.asked 0) (finite d) (eqb s.nodes (node_room (lengths_of t))))
   where
-    go : (b f c : Bool) → cond {A = ℕ} b 9 (cond (not f) 16 (cond c 6 (full_of s split))) ≡ 10 → ⊥
-    go true f c e = omega arith
-    go false false c e = omega arith
-    go false true true e = omega arith
-    go false true false e = omega (arith, full_most s split)
+    go : (b f c : Bool) → cond {A = Result ⊤ Refusal} b (Err NothingAsked) (cond (not f) (Err NotFinite) (cond c (Err NodesFull) (full_of s split))) ≡ Err NotFitting → ⊥
+    go true f c = not_so (Err NothingAsked) NotFitting (λ n. omega arith)
+    go false false c = not_so (Err NotFinite) NotFitting (λ n. omega arith)
+    go false true true = not_so (Err NodesFull) NotFitting (λ n. omega arith)
+    go false true false = not_so (full_of s split) NotFitting (λ n. omega (arith, full_most s split))
 
 pub refusal_none : (s : State) (split : Bool) (d : Float) (t : Tables) → fits s t ≡ true → (s.asked ≡ 0 → ⊥) → finite d ≡ true → (s.nodes ≡ node_room (lengths_of t) → ⊥)
-    → full_of s split ≡ 0 → refusal_of s split d t ≡ 0
+    → full_of s split ≡ allowed → refusal_of s split d t ≡ allowed
 unfolding fits refusal_of refusal_at
 refusal_none s split d t e n k r f = rw (e, ne_eqb s.asked 0 n, k, ne_eqb s.nodes (node_room (lengths_of t)) r) f
 
-pub never_10 : (s : State) (d : Float) (t : Tables) → fits s t ≡ true → (distance_of s d t).answer ≡ Refused 10 → ⊥
-never_10 s d t e r = refusal_not_10 s (split_of s d) d t e (refused_number s d t 10 r).0
+pub never_10 : (s : State) (d : Float) (t : Tables) → fits s t ≡ true → (distance_of s d t).answer ≡ Err NotFitting → ⊥
+never_10 s d t e r = refusal_not_10 s (split_of s d) d t e (refused_why s d t NotFitting r)
 
 -- ---- 16, exactly where the distance isn't finite
 
-pub refusal_broken : (s : State) (split : Bool) (d : Float) (t : Tables) → fits s t ≡ true → (s.asked ≡ 0 → ⊥) → finite d ≡ false → refusal_of s split d t ≡ 16
+pub refusal_broken : (s : State) (split : Bool) (d : Float) (t : Tables) → fits s t ≡ true → (s.asked ≡ 0 → ⊥) → finite d ≡ false → refusal_of s split d t ≡ Err NotFinite
 unfolding fits refusal_of refusal_at
 refusal_broken s split d t e n f = rw (e, ne_eqb s.asked 0 n, f) refl
 
-pub broken_refused : (s : State) (d : Float) (t : Tables) → fits s t ≡ true → (s.asked ≡ 0 → ⊥) → finite d ≡ false → (distance_of s d t).answer ≡ Refused 16
+pub broken_refused : (s : State) (d : Float) (t : Tables) → fits s t ≡ true → (s.asked ≡ 0 → ⊥) → finite d ≡ false → (distance_of s d t).answer ≡ Err NotFinite
 unfolding distance_of
 broken_refused s d t e n f =
-    ap (λ (o : Outcome). o.answer) (sym (refused s (split_of s d) d t 16 (sym (refusal_broken s (split_of s d) d t e n f)) (λ z. omega arith)))
+    ap (λ (o : Outcome). o.answer) (sym (refused s (split_of s d) d t NotFinite (refusal_broken s (split_of s d) d t e n f)))
 
-pub refusal_16 : (s : State) (split : Bool) (d : Float) (t : Tables) → refusal_of s split d t ≡ 16 → finite d ≡ false
+pub refusal_16 : (s : State) (split : Bool) (d : Float) (t : Tables) → refusal_of s split d t ≡ Err NotFinite → finite d ≡ false
 unfolding refusal_of refusal_at
 refusal_16 s split d t = go (fits_at s _ _ _ _) (eqb s.asked 0) (finite d) (eqb s.nodes (node_room (lengths_of t)))
   where
-    go : (a b f c : Bool) → cond {A = ℕ} (not a) 10 (cond b 9 (cond (not f) 16 (cond c 6 (full_of s split)))) ≡ 16 → f ≡ false
-    go false b f c e = absurd (omega arith)
-    go true true f c e = absurd (omega arith)
+    go : (a b f c : Bool)
+        → cond {A = Result ⊤ Refusal} (not a) (Err NotFitting) (cond b (Err NothingAsked) (cond (not f) (Err NotFinite) (cond c (Err NodesFull) (full_of s split)))) ≡ Err NotFinite → f ≡ false
+    go false b f c e = absurd (not_so (Err NotFitting) NotFinite (λ n. omega arith) e)
+    go true true f c e = absurd (not_so (Err NothingAsked) NotFinite (λ n. omega arith) e)
     go true false false c e = refl
-    go true false true true e = absurd (omega arith)
-    go true false true false e = absurd (omega (arith, full_most s split))
+    go true false true true e = absurd (not_so (Err NodesFull) NotFinite (λ n. omega arith) e)
+    go true false true false e = absurd (not_so (full_of s split) NotFinite (λ n. omega (arith, full_most s split)) e)
 
-pub only_broken : (s : State) (d : Float) (t : Tables) → (distance_of s d t).answer ≡ Refused 16 → finite d ≡ false
-only_broken s d t e = refusal_16 s (split_of s d) d t (refused_number s d t 16 e).0
+pub only_broken : (s : State) (d : Float) (t : Tables) → (distance_of s d t).answer ≡ Err NotFinite → finite d ≡ false
+only_broken s d t e = refusal_16 s (split_of s d) d t (refused_why s d t NotFinite e)

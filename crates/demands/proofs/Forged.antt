@@ -9,6 +9,7 @@ use lib.Dec.{eqb, ltb}
 use lib.Ieee.{Float}
 use lib.ListN.{length, get_or}
 use borrow.Author.Tests.{eqb-true, ltb-true}
+use Rattle.std.specs.Prelude.{Ok}
 use Rattle.morton.specs.Level.{level}
 use Rattle.morton.proofs.Cells.{child_cell}
 use Rattle.morton.proofs.Levels.{eight_pos, and_true}
@@ -16,11 +17,11 @@ use Rattle.build.specs.declared.Lengths.{Lengths}
 use Rattle.build.specs.declared.Request.{Request}
 use Rattle.build.specs.declared.State.{State}
 use Rattle.build.specs.declared.Answer.TheVariants.{Ask}
-use Rattle.build.specs.Build.{Tables, outcome, lengths_of, node_room, finest, items, item_at, cell_to, same_lengths, counts_fit, idle_fits, busy_fits, fits_at, fits, refusal_of, split_of, children_to, queue_of, leaves_of, moved_of, distance_of}
+use Rattle.build.specs.Build.{allowed, Tables, outcome, lengths_of, node_room, finest, items, item_at, cell_to, same_lengths, counts_fit, idle_fits, busy_fits, fits_at, fits, refusal_of, split_of, children_to, queue_of, leaves_of, moved_of, distance_of}
 use Rattle.build.proofs.Laws.{cell_to_lem, to_cell, counts, same, asked, passed, full_ring}
 use Rattle.build.proofs.Ring.{apart, length_children, children_other, children_at}
 use Rattle.demands.proofs.Rule.{split_level, finest_deep}
-use Rattle.demands.proofs.Call.{next_of, answer_took, ask_refused}
+use Rattle.demands.proofs.Call.{next_of, answer_took, answered}
 
 -- ---- an item of the ring after the children of a cell are stored: one before them, and the first of them
 
@@ -39,7 +40,7 @@ first_child q k item n e h =
 
 -- ---- the item that is asked next
 
-item_cell : (s : State) (t : Tables) (split : Bool) (d : Float) → (split ≡ true → level s.asked < finest s.bound) → refusal_of s split d t ≡ 0
+item_cell : (s : State) (t : Tables) (split : Bool) (d : Float) → (split ≡ true → level s.asked < finest s.bound) → refusal_of s split d t ≡ allowed
     → s.nodes < items (s.nodes + 1) (leaves_of s split) → cell_to (finest s.bound) (item_at (queue_of s split t) s.nodes) ≡ true
 unfolding refusal_of leaves_of queue_of lengths_of
 item_cell s t false d above z l =
@@ -68,11 +69,11 @@ split_above : (s : State) (d : Float) → split_of s d ≡ true → level s.aske
 unfolding split_of
 split_above s d = split_level (level s.asked) s.bound d
 
-pub next_cell : (s s' : State) (d : Float) (t t' : Tables) (r : Request) → distance_of s d t ≡ outcome (Ask r s') t' → (s'.asked ≡ 0 → ⊥)
+pub next_cell : (s s' : State) (d : Float) (t t' : Tables) (r : Request) → distance_of s d t ≡ outcome (Ok (Ask r s')) t' → (s'.asked ≡ 0 → ⊥)
     → cell_to (finest s.bound) s'.asked ≡ true
 unfolding next_of moved_of
 next_cell s s' d t t' r e n =
-    let k = answer_took s t t' d (Ask r s') e (λ j. ask_refused r s' j) in
+    let k = answer_took s t t' d (Ok (Ask r s')) e (answered (Ask r s')) in
     let at : next_of s (leaves_of s (split_of s d)) (queue_of s (split_of s d) t) ≡ s'.asked = ap (λ (x : State). x.asked) k.state in
     go (ltb s.nodes (items (s.nodes + 1) (leaves_of s (split_of s d)))) refl at (item_cell s t (split_of s d) d (split_above s d) k.free)
   where

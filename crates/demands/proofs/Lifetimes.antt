@@ -2,7 +2,7 @@
 use Prim.Native.Nat.{ℕ, zero, suc, ◌+◌, ◌-◌, ◌*◌, ◌/◌, ◌%◌, ◌^◌, ◌≤◌, ◌<◌, min}
 use mathlib.Core.Path.{◌≡◌, refl, sym, ◌∙◌, ap, subst, subst₂}
 use mathlib.Core.Bool.{Bool, true, false, cond, ◌&&◌}
-use mathlib.Core.Logic.{◌⊎◌, inr, ⊎_elim}
+use mathlib.Core.Logic.{inl, ◌⊎◌, inr, ⊎_elim}
 use mathlib.Core.List.{List}
 use native.Mathlib.Nat.{mul-pos}
 use native.Mathlib.Omega.{arith}
@@ -10,6 +10,8 @@ use borrow.Author.Tests.{leb-true, leb-false}
 use lib.Dec.{leb}
 use lib.ListN.{length, get_or, drop, get_or-append}
 use lib.Pow.{pow_pos}
+use Rattle.std.specs.Prelude.{Ok}
+use Rattle.refusals.specs.Refusals.{number}
 use Rattle.morton.specs.Field.{coord, key}
 use Rattle.morton.specs.Level.{deepest, limit, level, Cell}
 use Rattle.morton.specs.Vertex.{corner_at, vertex_of}
@@ -23,14 +25,12 @@ use Rattle.geometry.specs.Listing.{given}
 use Rattle.geometry.proofs.Lookup.{root_leaf}
 use Rattle.geometry.proofs.Offsets.{rest_bit}
 use Rattle.geometry.proofs.Shape.{cell_pos, child_is, sound_shape}
-use Rattle.vertices.specs.declared.ListAnswer.TheVariants.{Count}
 use Rattle.vertices.specs.Listing.{Lists, written, ListSays}
 use Rattle.vertices.proofs.Law.{spots_listed}
 use Rattle.dual.specs.declared.Dual.{Dual}
 use Rattle.dual.specs.Dual.{DualCell, DualSays}
 use Rattle.dual.proofs.Filling.{sum_ext}
-use Rattle.slabs.specs.declared.SlabsAnswer.TheVariants.{Reach}
-use Rattle.slabs.specs.Heights.{SlabsSays}
+use Rattle.slabs.specs.Heights.{reach, SlabsSays}
 use Rattle.lifetimes.specs.Needed.{CellOf, SpanOf, Never, how_many, needed_at, Reports, Reported}
 use Rattle.lifetimes.proofs.Leaves.{leaves_count}
 use Rattle.lifetimes.proofs.Cells.{vertices, levels, CellAt, cell_at_lem}
@@ -172,8 +172,8 @@ module _ (t : Tree) (s : ℕ) (was left : Reports) (most : ℕ) (S : Sound t) (s
       })
       (λ n. absurd (n.none first last mine)) (span_at_lem m.place m.inside)
 
-  in_time : (start n : ℕ) (before after : Lists) → ListSays t start before after (Count n) → (j : ℕ) → j < n
-      → (first last : ℕ) → SlabsSays t (level_at after start j) (vertex_at after start j) s (Reach first last)
+  in_time : (start n : ℕ) (before after : Lists) → ListSays t start before after (Ok n) → (j : ℕ) → j < n
+      → (first last : ℕ) → SlabsSays t (level_at after start j) (vertex_at after start j) s (reach first last)
       → (c : Dual) → DualSays t (level_at after start j) (vertex_at after start j) c.keys c.distances c.places c.tried
       → (slab : ℕ) → first ≤ slab → slab ≤ last → (o : ℕ) → o < 8 → LeafKept t left slab (get_or c.keys o 0)
   in_time start n before after (_, w) j h first last says c cell slab from to o l =
@@ -265,4 +265,5 @@ lifetimes_of_trees t s was left most (S, small, _, r) = told t s was left most S
 
 -- why a call is refused is said in its promise, with the limit for 15
 pub lifetimes_refused : LifetimesRefused
-lifetimes_refused t s was left k says = says
+lifetimes_refused t s was left k (stays, why) =
+    (stays, ⊎_elim (λ x. inl (x.0, ap number x.1)) (λ x. inr (⊎_elim (λ y. inl (y.0, y.1, ap number y.2)) (λ y. inr (y.0, y.1, y.2, ap number y.3)) x)) why)

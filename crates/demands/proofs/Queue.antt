@@ -12,7 +12,7 @@ use borrow.Author.Tests.{ne_eqb, le-ltb}
 use Rattle.morton.specs.Level.{level}
 use Rattle.morton.proofs.Levels.{eight_pos, eight_mono}
 use Rattle.build.specs.declared.State.{State}
-use Rattle.build.specs.Build.{Tables, lengths_of, node_room, full_of, refusal_of, split_of}
+use Rattle.build.specs.Build.{allowed, Tables, lengths_of, node_room, full_of, refusal_of, split_of}
 use Rattle.tree.specs.Tree.{AllFinite}
 use Rattle.geometry.specs.Grid.{volume, volumes, Covers}
 use Rattle.demands.specs.Run.{Run, leaf_keys, waiting, open_cells}
@@ -80,7 +80,7 @@ module _ {bound : ℕ} {lent : Tables} {given : List Float} (s : State) (t : Tab
           length_items t.queue s.nodes (7 * s.nodes - 8 * s.leaves),
         )
 
-    never_full : (split : Bool) → (split ≡ true → level s.asked < 2) → 64 ≤ s.lengths.leaves → 64 ≤ s.lengths.queue → full_of s split ≡ 0
+    never_full : (split : Bool) → (split ≡ true → level s.asked < 2) → 64 ≤ s.lengths.leaves → 64 ≤ s.lengths.queue → full_of s split ≡ allowed
     unfolding full_of volume
     never_full true a l q = rw (le-ltb s.lengths.queue (7 * s.nodes - 8 * s.leaves + 8) (omega (arith, volumes_open, volume_split s.asked (a refl)))) refl
     never_full false a l q = rw (ne_eqb s.leaves s.lengths.leaves (omega (arith, volumes_open, eight_pos (2 - level s.asked)))) refl
@@ -88,7 +88,7 @@ module _ {bound : ℕ} {lent : Tables} {given : List Float} (s : State) (t : Tab
 -- ---- the run of a list of distances
 
 module _ (bound : ℕ) (lent : Tables) (low : bound ≤ 2) (room : 73 ≤ node_room (lengths_of lent)) (leaves : 64 ≤ length lent.leaves) (queue : 64 ≤ length lent.queue) where
-  accepts : {given : List Float} (s : State) (t : Tables) (d : Float) → finite d ≡ true → length given < 73 → Traced bound lent given s t → refusal_of s (split_of s d) d t ≡ 0
+  accepts : {given : List Float} (s : State) (t : Tables) (d : Float) → finite d ≡ true → length given < 73 → Traced bound lent given s t → refusal_of s (split_of s d) d t ≡ allowed
   unfolding split_of lengths_of
   accepts s t d k l h =
       let n = busy_before s t low h l in

@@ -8,6 +8,9 @@ use native.Mathlib.Omega.{arith}
 use lib.Ieee.{Float, nan}
 use lib.ListN.{length, get_or, take, drop}
 use lib.Seq.{take_at, drop_at, length-take-le, get_or-take, get_or-drop}
+use Rattle.std.specs.Prelude.{Result, Ok, Err}
+use Rattle.refusals.specs.declared.Refusal.{Refusal}
+use Rattle.refusals.specs.declared.Refusal.TheVariants.{ListFull}
 use Rattle.morton.specs.Level.{deepest, level, Cell}
 use Rattle.morton.specs.Vertex.{is_inner, side_of}
 use Rattle.morton.proofs.Levels.{cell_level}
@@ -28,16 +31,10 @@ use Rattle.geometry.proofs.Cover.{shape_covers}
 use Rattle.geometry.proofs.Around.{Entry, entry}
 use Rattle.geometry.proofs.Listing.{giver, listed_unique, listed_strict, listed_corner, listed_deepest}
 use Rattle.build.specs.Build.{finest}
-use Rattle.vertices.specs.declared.ListAnswer.{ListAnswer}
-use Rattle.vertices.specs.declared.ListAnswer.TheVariants as list
-use Rattle.vertices.specs.declared.ListAnswer.TheVariants.{Count}
 use Rattle.vertices.specs.Walk.{spots_of, vertices_of, levels_of}
 use Rattle.vertices.specs.Listing.{Lists, written, Room, Wrote, ListSays}
 use Rattle.vertices.proofs.Law.{spots_listed}
 use Rattle.dual.specs.declared.Dual.{Dual}
-use Rattle.dual.specs.declared.Tried.{Tried}
-use Rattle.dual.specs.declared.Tried.TheVariants as tried
-use Rattle.dual.specs.declared.Tried.TheVariants.{Keys}
 use Rattle.dual.specs.Dual.{DualSays, DualCell}
 use Rattle.dual.proofs.Filling.{any_around, around_dual}
 use Rattle.demands.specs.Reading.{Once, LeafCorner, ListsCorners, Answered, HoldsAlone, LeafCell, part, Reading, OfSoundTrees, tree_after, OfFinishedBuilds}
@@ -170,15 +167,15 @@ module _ (t : Tree) (sound : Sound t) (D : ℕ) (deep : D ≤ deepest) (leaf : (
       }
     where
       has_room : {n : ℕ} (start : ℕ) (was left : Lists) → Room start n was → ((xs ys : List ℕ) → Listed t.leaves xs ys → length xs ≡ n)
-          → (a : ListAnswer) → ListSays t start was left a → a ≡ Count n
-      has_room start was left r same (Count m) (_, w) = ap Count (w.count ∙ same w.vs w.ls w.listed)
-      has_room start was left r same (list.Refused k) (_, why) =
+          → (a : Result ℕ Refusal) → ListSays t start was left a → a ≡ Ok n
+      has_room start was left r same (Ok m) (_, w) = ap Ok (w.count ∙ same w.vs w.ls w.listed)
+      has_room start was left r same (Err k) (_, why) =
           absurd (⊎_elim (λ x. x.0 sound) (λ x. x.1.no_room (subst (λ (m : ℕ). Room start m was) (sym (same x.1.vs x.1.ls x.1.listed)) r)) why)
 
       has_none : {n : ℕ} (start : ℕ) (was left : Lists) → (Room start n was → ⊥) → ((xs ys : List ℕ) → Listed t.leaves xs ys → length xs ≡ n)
-          → (a : ListAnswer) → ListSays t start was left a → a ≡ list.Refused 12
-      has_none start was left r same (Count m) (_, w) = absurd (r (subst (λ (m : ℕ). Room start m was) (w.count ∙ same w.vs w.ls w.listed) w.room))
-      has_none start was left r same (list.Refused k) (_, why) = ⊎_elim (λ x. absurd (x.0 sound)) (λ x. ap list.Refused x.2) why
+          → (a : Result ℕ Refusal) → ListSays t start was left a → a ≡ Err ListFull
+      has_none start was left r same (Ok m) (_, w) = absurd (r (subst (λ (m : ℕ). Room start m was) (w.count ∙ same w.vs w.ls w.listed) w.room))
+      has_none start was left r same (Err k) (_, why) = ⊎_elim (λ x. absurd (x.0 sound)) (λ x. ap Err x.2) why
 
   pub dual_read : (vs ls : List ℕ) → Listed t.leaves vs ls → (j : ℕ) → j < length vs
       → (keys : List ℕ) (distances : List Float) (places : List ℕ) (tried : ℕ) → DualCell t (get_or ls j 0) (get_or vs j 0) keys distances places tried
@@ -216,13 +213,13 @@ module _ (t : Tree) (sound : Sound t) (D : ℕ) (deep : D ≤ deepest) (leaf : (
       → DualSays t (get_or ls j 0) (get_or vs j 0) r.keys r.distances r.places r.tried → LeafCell D t (get_or vs j 0) r
   leaf_cell vs ls list j l r = go r.tried refl
     where
-      go : (a : Tried) → r.tried ≡ a → DualSays t (get_or ls j 0) (get_or vs j 0) r.keys r.distances r.places a → LeafCell D t (get_or vs j 0) r
-      go (Keys n) e (_, _, _, c) =
+      go : (a : Result ℕ Refusal) → r.tried ≡ a → DualSays t (get_or ls j 0) (get_or vs j 0) r.keys r.distances r.places a → LeafCell D t (get_or vs j 0) r
+      go (Ok n) e (_, _, _, c) =
           record {
             answered = λ k f. let z : ◌≡◌ {A = ℕ} 0 1 = cc in omega arith;
             entry = dual_read vs ls list j l r.keys r.distances r.places n c;
           }
-      go (tried.Refused k) e (_, _, _, why) =
+      go (Err k) e (_, _, _, why) =
           absurd (⊎_elim (λ x. x.0 sound)
           (λ x. ⊎_elim (λ f. true≢false (sym (listed_inner vs ls list j l) ∙ f)) (λ alone. omega (arith, listed_more vs ls list j l)) x.1)
           why)

@@ -11,13 +11,16 @@ use lib.Seq.{get_or-append_seam}
 use lib.Ieee.{Float}
 use lib.Ieee.Scale.{finite}
 use borrow.Author.Tests.{eqb-false, ne_eqb, le-ltb}
+use Rattle.std.specs.Prelude.{Result, Err, ⊤}
+use Rattle.refusals.specs.declared.Refusal.{Refusal}
+use Rattle.refusals.specs.declared.Refusal.TheVariants.{QueueFull, LeavesFull, NothingAsked, NotFinite, NodesFull}
 use Rattle.morton.specs.Level.{level}
 use Rattle.morton.specs.Split.{splits}
 use Rattle.morton.proofs.Levels.{cell_level}
-use Rattle.morton.proofs.Distance.{shallow}
+use Rattle.morton.proofs.Distance.{always}
 use Rattle.build.specs.declared.Lengths.{Lengths}
 use Rattle.build.specs.declared.State.{State}
-use Rattle.build.specs.Build.{Tables, lengths_of, node_room, full_of, refusal_of, refusal_at, fits, split_of, leaves_of, moved_of}
+use Rattle.build.specs.Build.{allowed, Tables, lengths_of, node_room, full_of, refusal_of, refusal_at, fits, split_of, leaves_of, moved_of}
 use Rattle.build.proofs.Laws.{passed, full_ring}
 use Rattle.tree.specs.Tree.{AllFinite}
 use Rattle.tree.proofs.Lists.{in_at}
@@ -27,9 +30,9 @@ use Rattle.demands.specs.Run.Run.{started, asked, finished}
 use Rattle.demands.specs.Reading.{tree_after}
 use Rattle.demands.specs.Rooms.{RoomFor, nodes_with, EnoughRoom, EnoughLeaves, Finishes, ShortQueue}
 use Rattle.demands.proofs.Growth.{length_children, grown_all, firsts_of, grown_one}
-use Rattle.demands.proofs.Call.{Took, answer_took, ask_refused, finished_refused, refused_number, run_start, run_on}
+use Rattle.demands.proofs.Call.{Took, answer_took, answered, refused_why, run_start, run_on}
 use Rattle.demands.proofs.Trace.{Traced, run_traced, open_none, open_asked, nodes_count, leaves_count}
-use Rattle.demands.proofs.Fits.{open_count, count_done, count_busy, fits_traced, refusal_none}
+use Rattle.demands.proofs.Fits.{not_so, open_count, count_done, count_busy, fits_traced, refusal_none}
 use Rattle.demands.proofs.Soundness.{in_children}
 use Rattle.demands.proofs.Finite.{finite_head, finite_reverse}
 
@@ -48,12 +51,12 @@ module _ {bound : ℕ} {lent : Tables} {given : List Float} (s : State) (t : Tab
   queue_same = ap (λ (z : Lengths). z.queue) h.lengths_same
 
   module _ (n : ℕ) (room : RoomFor n lent) (asks : s.asked ≡ 0 → ⊥) where
-    not_full : (split : Bool) → 1 + 8 * (s.nodes - s.leaves + cond {A = ℕ} split 1 0) ≤ n → full_of s split ≡ 0
+    not_full : (split : Bool) → 1 + 8 * (s.nodes - s.leaves + cond {A = ℕ} split 1 0) ≤ n → full_of s split ≡ allowed
     unfolding full_of
     not_full true l = rw (le-ltb s.lengths.queue (7 * s.nodes - 8 * s.leaves + 8) (omega (arith, queue_same, room.queue, count_busy s t h asks))) refl
     not_full false l = rw (ne_eqb s.leaves s.lengths.leaves (λ e. omega (arith, leaves_same, room.leaves, count_busy s t h asks))) refl
 
-    pub room_free : (d : Float) → finite d ≡ true → nodes_with s d ≤ n → refusal_of s (split_of s d) d t ≡ 0
+    pub room_free : (d : Float) → finite d ≡ true → nodes_with s d ≤ n → refusal_of s (split_of s d) d t ≡ allowed
     room_free d f l =
         refusal_none s (split_of s d) d t (fits_traced s t h) asks f
         (λ e. omega (arith, room.nodes, room_same, count_busy s t h asks))
@@ -65,25 +68,26 @@ enough_room n bound lent given s t room run asks d f k e = go (dec_lt n (nodes_w
     go : Dec (n < nodes_with s d) → n < nodes_with s d
     go (yes l) = l
     go (no l) =
-        let r = refused_number s d t k e in
-        absurd (r.1 (sym r.0 ∙ room_free s t (run_traced run) n room asks d f (omega arith)))
+        absurd (let z : ◌≡◌ {A = Result ⊤ Refusal} allowed (Err k) = sym (room_free s t (run_traced run) n room asks d f (omega arith)) ∙ refused_why s d t k e in let y : ◌≡◌ {A = ℕ} 0 1 = cc in omega arith)
 
 -- ---- 7 where the leaves have room for a full tree
 
-seven_by : (a f b split q l : Bool) → (a ≡ false → b ≡ false → l ≡ false) → ◌≡◌ {A = ℕ} (cond a 9 (cond f 16 (cond b 6 (cond split (cond q 8 0) (cond l 7 0))))) 7 → ⊥
-seven_by true f b split q l h e = omega arith
-seven_by false true b split q l h e = omega arith
-seven_by false false true split q l h e = omega arith
-seven_by false false false true true l h e = omega arith
-seven_by false false false true false l h e = omega arith
-seven_by false false false false q true h e = true≢false (h refl refl)
-seven_by false false false false q false h e = omega arith
+seven_by : (a f b split q l : Bool) → (a ≡ false → b ≡ false → l ≡ false)
+    → ◌≡◌ {A = Result ⊤ Refusal}
+    (cond a (Err NothingAsked) (cond f (Err NotFinite) (cond b (Err NodesFull) (cond split (cond q (Err QueueFull) allowed) (cond l (Err LeavesFull) allowed))))) (Err LeavesFull) → ⊥
+seven_by true f b split q l h = not_so (Err NothingAsked) LeavesFull (λ n. omega arith)
+seven_by false true b split q l h = not_so (Err NotFinite) LeavesFull (λ n. omega arith)
+seven_by false false true split q l h = not_so (Err NodesFull) LeavesFull (λ n. omega arith)
+seven_by false false false true true l h = not_so (Err QueueFull) LeavesFull (λ n. omega arith)
+seven_by false false false true false l h = not_so allowed LeavesFull (λ n. omega arith)
+seven_by false false false false q true h = λ e. true≢false (h refl refl)
+seven_by false false false false q false h = not_so allowed LeavesFull (λ n. omega arith)
 
 pub enough_leaves : EnoughLeaves
 unfolding fits refusal_of refusal_at full_of
 enough_leaves bound lent given s t room run d e =
     let h = run_traced run in
-    let c : refusal_of s (split_of s d) d t ≡ 7 = (refused_number s d t 7 e).0 in
+    let c : refusal_of s (split_of s d) d t ≡ Err LeavesFull = refused_why s d t LeavesFull e in
     seven_by (eqb s.asked 0) (not (finite d)) (eqb s.nodes (node_room (lengths_of t))) (split_of s d)
     (ltb s.lengths.queue (7 * s.nodes - 8 * s.leaves + 8)) (eqb s.leaves s.lengths.leaves)
     (λ a b.
@@ -178,8 +182,8 @@ module _ (bound : ℕ) (large lent : Tables) (n : ℕ) (room : RoomFor n lent) w
 
   reach : {given : List Float} {s : State} {t : Tables} → Run bound large given s t → cells_of s ≤ n → Reached given
   reach (started e) l = let r = run_start bound lent (run_traced (started e)).bounded in (r.0, lent, r.1)
-  reach (asked d run e) l = reach_on d _ _ _ _ run (answer_took _ _ _ d _ e (ask_refused _ _)) l (λ m. reach run m)
-  reach (finished d run e) l = reach_on d _ _ _ _ run (answer_took _ _ _ d _ e (finished_refused _)) l (λ m. reach run m)
+  reach (asked d run e) l = reach_on d _ _ _ _ run (answer_took _ _ _ d _ e (answered _)) l (λ m. reach run m)
+  reach (finished d run e) l = reach_on d _ _ _ _ run (answer_took _ _ _ d _ e (answered _)) l (λ m. reach run m)
 
 pub finishes : Finishes
 finishes bound large lent given s t run done room =
@@ -197,7 +201,7 @@ low_next bound next (k ∷ ks) more [] all e l f = absurd (omega arith)
 low_next bound next (k ∷ ks) more (d ∷ ds) all e l f =
     let o : k ≡ 1 = cc in
     let rest : ks ++ (next ∷ more) ≡ cond (splits (level k) bound d) (children k ++ children_of bound ks ds) (children_of bound ks ds) = cc in
-    let divides : true ≡ splits 0 bound d = sym (finite_head d ds all) ∙ shallow 0 bound d (omega arith) in
+    let divides : true ≡ splits 0 bound d = sym (finite_head d ds all) ∙ always 0 bound d (omega arith) in
     go (rw (o, root_level, ← divides) at rest)
   where
     go : ks ++ (next ∷ more) ≡ children 1 ++ children_of bound ks ds → level next < 2
@@ -221,14 +225,14 @@ module _ {bound : ℕ} (lent : Tables) (short : length lent.queue < 64) where
       let low : level s.asked < 2 =
       low_next bound s.asked (node_keys s t) (waiting s t) (reverse given) (finite_reverse given h.known) (nodes_count s t h ∙ h.nodes ∙ sym (length-reverse given)) (omega (arith, nodes_count s t h))
       (ap (λ (xs : List ℕ). node_keys s t ++ xs) (sym (open_asked s t p.asks)) ∙ grown_all h.grown) in
-      let split : split_of s d ≡ true = sym (shallow (level s.asked) s.bound d low) ∙ p.known in
+      let split : split_of s d ≡ true = sym (always (level s.asked) s.bound d low) ∙ p.known in
       let ring = full_ring s (rw split at p).full in
       rw (← k.state, split) (none, omega (arith, ring, queue_same s t h))
 
   few_run : {given : List Float} {s : State} {t : Tables} → Run bound lent given s t → Few s
   few_run {given} {s} {t} (started e) = let h = run_traced (started e) in (omega (arith, h.nodes, open_count s t h), omega (arith, h.nodes))
-  few_run (asked d run e) = few_on d _ _ _ _ run (answer_took _ _ _ d _ e (ask_refused _ _)) (few_run run)
-  few_run (finished d run e) = few_on d _ _ _ _ run (answer_took _ _ _ d _ e (finished_refused _)) (few_run run)
+  few_run (asked d run e) = few_on d _ _ _ _ run (answer_took _ _ _ d _ e (answered _)) (few_run run)
+  few_run (finished d run e) = few_on d _ _ _ _ run (answer_took _ _ _ d _ e (answered _)) (few_run run)
 
 pub short_queue : ShortQueue
 short_queue bound lent given s t short run done = omega (arith, few_run lent (omega arith) run, count_done s t (run_traced run) done)

@@ -11,6 +11,10 @@ use lib.Ieee.{Float}
 use lib.ListN.{length, get_or}
 use lib.Pow.{pow-add, pow_pos}
 use lib.Dec.{lit<}
+use Rattle.std.specs.Prelude.{Result, Ok, Err}
+use Rattle.refusals.specs.Refusals.{number}
+use Rattle.refusals.specs.declared.Refusal.{Refusal}
+use Rattle.slabs.specs.declared.Reach.{Reach}
 use Rattle.morton.specs.Field.{bit, coord, key}
 use Rattle.morton.specs.Level.{deepest, limit, level}
 use Rattle.morton.specs.Vertex.{is_inner, side_of}
@@ -26,13 +30,9 @@ use Rattle.geometry.proofs.Shape.{sound_shape_to}
 use Rattle.geometry.proofs.Lookup.{found_leaf}
 use Rattle.geometry.proofs.Listing.{giver, listed_strict}
 use Rattle.dual.specs.declared.Dual.{Dual}
-use Rattle.dual.specs.declared.Tried.{Tried}
-use Rattle.dual.specs.declared.Tried.TheVariants as tried
 use Rattle.dual.specs.Dual.{NoCell, DualCell, DualSays}
 use Rattle.dual.proofs.One.{dual_cell_one}
-use Rattle.slabs.specs.declared.SlabsAnswer.{SlabsAnswer}
-use Rattle.slabs.specs.declared.SlabsAnswer.TheVariants.{Reach, Refused}
-use Rattle.slabs.specs.Heights.{height_over, height_under, slab_of, Reaches, OfCell, SlabsSays}
+use Rattle.slabs.specs.Heights.{reach, height_over, height_under, slab_of, Reaches, OfCell, SlabsSays}
 use Rattle.slabs.proofs.Order.{rounded, under_pos}
 use Rattle.slabs.proofs.Spans.{reach_each, reach_order, steps, side_is, level_side, entry_level, entry_over, entry_height, level_height, two_slabs}
 use Rattle.demands.specs.Slabs.{slab_of_vertex, HasVertex, CellIn, WhyNot, SlabsOfTrees}
@@ -250,16 +250,16 @@ module _ (t : Tree) (sound : Sound t) (vs ls : List ℕ) (list : Listed t.leaves
 
 -- what is reached is that of the dual cell
 module _ (t : Tree) {L v s first last : ℕ} where
-  pub reaching : SlabsSays t L v s (Reach first last)
+  pub reaching : SlabsSays t L v s (reach first last)
       → (c : Dual) → DualSays t L v c.keys c.distances c.places c.tried
       → Sound t × (is_inner L v ≡ true) × ((n : ℕ) × DualCell t L v c.keys c.distances c.places n) × Reaches c.keys s first last
   reaching (b, says, of) c cell =
-      go c.tried cell (subst (λ (x : Dual). OfCell x.tried x.keys s (Reach first last)) (dual_cell_one t L v b c says cell) of)
+      go c.tried cell (subst (λ (x : Dual). OfCell x.tried x.keys s (reach first last)) (dual_cell_one t L v b c says cell) of)
     where
-      go : (a : Tried) → DualSays t L v c.keys c.distances c.places a → OfCell a c.keys s (Reach first last)
+      go : (a : Result ℕ Refusal) → DualSays t L v c.keys c.distances c.places a → OfCell a c.keys s (reach first last)
           → Sound t × (is_inner L v ≡ true) × ((n : ℕ) × DualCell t L v c.keys c.distances c.places n) × Reaches c.keys s first last
-      go (tried.Keys n) (S, inner, _, d) (_, r) = (S, inner, (n, d), r)
-      go (tried.Refused k) _ e = let z : ◌≡◌ {A = ℕ} 0 1 = cc in absurd (omega arith)
+      go (Ok n) (S, inner, _, d) (_, r) = (S, inner, (n, d), r)
+      go (Err k) _ e = let z : ◌≡◌ {A = ℕ} 0 1 = cc in absurd (omega arith)
 
   spans_each : {c : Dual} → CellIn t L v s first last c
       → (i : ℕ) → i < 8 → (first ≤ slab_of s (get_or c.keys i 0)) × (slab_of s (get_or c.keys i 0) ≤ last)
@@ -273,38 +273,38 @@ module _ (t : Tree) {L v s first last : ℕ} where
       let (S, inner, (n, d), r) = reaching at.slabs c at.cell in
       two_slabs t L v at.word inner d of-level h r
 
-  spans_order : SlabsSays t L v s (Reach first last) → (first ≤ last) × (last < 2 ^ s)
+  spans_order : SlabsSays t L v s (reach first last) → (first ≤ last) × (last < 2 ^ s)
   spans_order says = let (S, inner, d, r) = reaching says says.0 says.1 in reach_order r
 
 -- there is a cell, or none
 some_cell : (ks : List ℕ) (L v : ℕ) → is_inner L v ≡ true → 1 < length ks → NoCell ks L v → ⊥
 some_cell ks L v inner more none = ⊎_elim (λ f. true≢false (sym inner ∙ f)) (λ alone. omega arith) none
 
-slabs_answered : (t : Tree) (L v s first last : ℕ) → SlabsSays t L v s (Reach first last) → Sound t × (NoCell t.keys L v → ⊥) × (s ≤ 15)
+slabs_answered : (t : Tree) (L v s first last : ℕ) → SlabsSays t L v s (reach first last) → Sound t × (NoCell t.keys L v → ⊥) × (s ≤ 15)
 slabs_answered t L v s first last (c, says, of) = go c.tried says of
   where
-    go : (a : Tried) → DualSays t L v c.keys c.distances c.places a → OfCell a c.keys s (Reach first last)
+    go : (a : Result ℕ Refusal) → DualSays t L v c.keys c.distances c.places a → OfCell a c.keys s (reach first last)
         → Sound t × (NoCell t.keys L v → ⊥) × (s ≤ 15)
-    go (tried.Keys n) (S, inner, more, _) (h, _) = (S, some_cell t.keys L v inner more, h)
-    go (tried.Refused k) _ e = let z : ◌≡◌ {A = ℕ} 0 1 = cc in absurd (omega arith)
+    go (Ok n) (S, inner, more, _) (h, _) = (S, some_cell t.keys L v inner more, h)
+    go (Err k) _ e = let z : ◌≡◌ {A = ℕ} 0 1 = cc in absurd (omega arith)
 
 -- why it is refused
-slabs_refused : (t : Tree) (L v s k : ℕ) → SlabsSays t L v s (Refused k) → WhyNot t L v s k
+slabs_refused : (t : Tree) (L v s : ℕ) (k : Refusal) → SlabsSays t L v s (Err k) → WhyNot t L v s (number k)
 slabs_refused t L v s k (c, says, of) = go c.tried says of
   where
-    go : (a : Tried) → DualSays t L v c.keys c.distances c.places a → OfCell a c.keys s (Refused k) → WhyNot t L v s k
-    go (tried.Keys n) (S, inner, more, _) (h, five) =
-        inr (inr (S, some_cell t.keys L v inner more, h, five))
-    go (tried.Refused m) (_, _, _, why) e =
+    go : (a : Result ℕ Refusal) → DualSays t L v c.keys c.distances c.places a → OfCell a c.keys s (Err k) → WhyNot t L v s (number k)
+    go (Ok n) (S, inner, more, _) (h, five) =
+        inr (inr (S, some_cell t.keys L v inner more, h, ap number five))
+    go (Err m) (_, _, _, why) e =
         let same : k ≡ m = cc in
-        ⊎_elim (λ x. inl (x.0, same ∙ x.1)) (λ x. inr (inl (x.0, x.1, same ∙ x.2))) why
+        ⊎_elim (λ x. inl (x.0, ap number (same ∙ x.1))) (λ x. inr (inl (x.0, x.1, ap number (same ∙ x.2)))) why
 
 has_vertex : (t : Tree) (sound : Sound t) (vs ls : List ℕ) (list : Listed t.leaves vs ls) (j : ℕ) → j < length vs → (s : ℕ) → s ≤ 15
-    → (r : SlabsAnswer) → SlabsSays t (get_or ls j 0) (get_or vs j 0) s r → HasVertex s (get_or vs j 0) r
-has_vertex t sound vs ls list j l s h (Reach first last) says =
+    → (r : Result Reach Refusal) → SlabsSays t (get_or ls j 0) (get_or vs j 0) s r → HasVertex s (get_or vs j 0) r
+has_vertex t sound vs ls list j l s h (Ok x) says =
     let (S, inner, (n, d), r) = reaching t says says.0 says.1 in
     vertex_between t sound vs ls list j l d s r
-has_vertex t sound vs ls list j l s h (Refused k) says =
+has_vertex t sound vs ls list j l s h (Err k) says =
     let inner = listed_inner t sound limit (omega arith) (within t sound) vs ls list j l in
     let more = listed_more t sound limit (omega arith) (within t sound) vs ls list j l in
     ⊎_elim (λ x. x.0 sound)

@@ -11,14 +11,17 @@ use lib.ListN.{length, take, set, length-set}
 use lib.Seq.{take-suc-set, length-take-le}
 use lib.Ieee.{Float}
 use borrow.Author.Tests.{eq-eqb, ne_eqb, lt-ltb, le-ltb, ltb-false}
+use Rattle.std.specs.Prelude.{Result, Ok, Err}
+use Rattle.refusals.specs.declared.Refusal.{Refusal}
+use Rattle.build.specs.declared.Answer.{Answer}
 use Rattle.morton.specs.Level.{deepest, limit, level, Cell}
 use Rattle.morton.specs.Split.{splits}
 use Rattle.morton.proofs.Levels.{eight_pos}
 use Rattle.build.specs.declared.Lengths.{Lengths}
 use Rattle.build.specs.declared.Request.{Request}
 use Rattle.build.specs.declared.State.{State}
-use Rattle.build.specs.declared.Answer.TheVariants.{Ask, Refused}
-use Rattle.build.specs.Build.{Tables, lengths_of, node_room, finest, items, item_at, full_of, refusal_of, split_of, queue_of, first_of, stored_of, leaves_of, moved_of, start_of}
+use Rattle.build.specs.declared.Answer.TheVariants.{Ask}
+use Rattle.build.specs.Build.{allowed, Tables, lengths_of, node_room, finest, items, item_at, full_of, refusal_of, split_of, queue_of, first_of, stored_of, leaves_of, moved_of, start_of, start_at}
 use Rattle.build.proofs.Ring.{length_children}
 use Rattle.build.proofs.Laws.{passed, full_leaf, full_ring, ready}
 use Rattle.tree.specs.Tree.{AllFinite}
@@ -31,7 +34,7 @@ use Rattle.demands.proofs.Cover.{cells_right, grown_covers}
 use Rattle.demands.proofs.Rule.{finest_deep}
 use Rattle.demands.proofs.Finite.{finite_none, finite_more}
 use Rattle.demands.proofs.Items.{items_stored}
-use Rattle.demands.proofs.Call.{next_of, state_after, Took, answer_took, ask_refused, finished_refused}
+use Rattle.demands.proofs.Call.{next_of, state_after, Took, answer_took, answered}
 
 -- The cells at hand have grown from the root.
 abbrev pub GrownIn : ℕ → List Float → State → Tables → Type 0
@@ -103,7 +106,7 @@ module _ (bound : ℕ) (deep : finest bound ≤ deepest) (given : List Float) (s
   grown_asked n = rw (open_asked s t n) at g
 
   -- the asked cell goes to the nodes, item n is taken
-  grown_stored : (split : Bool) (leaves : List ℕ) → refusal_of s split d t ≡ 0 → leaves_of s split ≤ s.nodes + 1 → take (leaves_of s split) (stored_of s split d t).leaves ≡ leaves
+  grown_stored : (split : Bool) (leaves : List ℕ) → refusal_of s split d t ≡ allowed → leaves_of s split ≤ s.nodes + 1 → take (leaves_of s split) (stored_of s split d t).leaves ≡ leaves
       → Grown bound (d ∷ given) (node_keys s t ++ (s.asked ∷ [])) leaves (items_from (queue_of s split t) s.nodes (items (s.nodes + 1) (leaves_of s split) - s.nodes))
       → GrownIn bound (d ∷ given) (state_after s split t) (stored_of s split d t)
   unfolding stored_of moved_of
@@ -114,7 +117,7 @@ module _ (bound : ℕ) (deep : finest bound ≤ deepest) (given : List Float) (s
         open_moved (finest bound) (leaves_of s split) s (stored_of s split d t) few (cells_right (finest bound) leaves _ (grown_covers deep n).cells),
       ) n
 
-  grown_step : (split : Bool) → refusal_of s split d t ≡ 0 → splits (level s.asked) bound d ≡ split
+  grown_step : (split : Bool) → refusal_of s split d t ≡ allowed → splits (level s.asked) bound d ≡ split
       → GrownIn bound (d ∷ given) (state_after s split t) (stored_of s split d t)
   unfolding refusal_of leaves_of stored_of queue_of lengths_of
   grown_step true z rule =
@@ -151,17 +154,17 @@ module _ {bound : ℕ} {lent : Tables} {given : List Float} (s : State) (t : Tab
       ap (λ (b : ℕ). cond (splits (level s.asked) b d) (items s.nodes s.leaves + 1) 0) h.bound_same
       ∙ ap₂ (λ (n m : ℕ). cond (splits (level s.asked) bound d) (items n m + 1) 0) (sym (nodes_count s t h)) (sym (leaves_count s t h))
 
-  leaf_room_after : (split : Bool) → full_of s split ≡ 0 → leaves_of s split ≤ s.lengths.leaves
+  leaf_room_after : (split : Bool) → full_of s split ≡ allowed → leaves_of s split ≤ s.lengths.leaves
   unfolding leaves_of
   leaf_room_after true f = h.leaf_room
   leaf_room_after false f = let l = h.leaf_room in let n = full_leaf s f in omega arith
 
-  queue_room_after : (split : Bool) → full_of s split ≡ 0 → 8 * s.leaves ≤ 7 * s.nodes → 7 * (s.nodes + 1) - 8 * leaves_of s split ≤ s.lengths.queue
+  queue_room_after : (split : Bool) → full_of s split ≡ allowed → 8 * s.leaves ≤ 7 * s.nodes → 7 * (s.nodes + 1) - 8 * leaves_of s split ≤ s.lengths.queue
   unfolding leaves_of
   queue_room_after true f w = omega (arith, full_ring s f)
   queue_room_after false f w = omega (arith, h.queue_room)
 
-  moved_traced : refusal_of s (split_of s d) d t ≡ 0 → Traced bound lent (d ∷ given) (state_after s (split_of s d) t) (stored_of s (split_of s d) d t)
+  moved_traced : refusal_of s (split_of s d) d t ≡ allowed → Traced bound lent (d ∷ given) (state_after s (split_of s d) t) (stored_of s (split_of s d) d t)
   unfolding moved_of refusal_of split_of stored_of
   moved_traced z =
       let p = passed _ _ d _ _ _ _ z in
@@ -192,8 +195,8 @@ module _ {bound : ℕ} {lent : Tables} {given : List Float} (s : State) (t : Tab
   step_traced : {s' : State} {t' : Tables} → Took s (split_of s d) d t s' t' → Traced bound lent (d ∷ given) s' t'
   step_traced k = rw (← k.state, ← k.tables) (moved_traced k.free)
 
-start_traced : (bound : ℕ) (lent : Tables) (r : Request) (s : State) → start_of bound lent ≡ Ask r s → Traced bound lent [] s lent
-unfolding start_of open_cells items_from firsts_of
+start_traced : (bound : ℕ) (lent : Tables) (r : Request) (s : State) → start_of bound lent ≡ Ok (Ask r s) → Traced bound lent [] s lent
+unfolding start_of start_at open_cells items_from firsts_of
 start_traced bound lent r s e =
     let v = start_ask (ltb limit bound) _ _ _ _ _ e in
     rw (← v.1)
@@ -212,11 +215,11 @@ start_traced bound lent r s e =
       grown = root;
     }
   where
-    start_ask : (b : Bool) (r r' : Request) (s s' : State) (k : ℕ) → cond b (Refused k) (Ask r s) ≡ Ask r' s' → (b ≡ false) × (s ≡ s')
+    start_ask : (b : Bool) (r r' : Request) (s s' : State) (k : Refusal) → cond {A = Result Answer Refusal} b (Err k) (Ok (Ask r s)) ≡ Ok (Ask r' s') → (b ≡ false) × (s ≡ s')
     start_ask true r r' s s' k e = let z : ◌≡◌ {A = ℕ} 0 1 = cc in absurd (omega arith)
     start_ask false r r' s s' k e = (refl, cc)
 
 pub run_traced : {bound : ℕ} {lent : Tables} {given : List Float} {s : State} {t : Tables} → Run bound lent given s t → Traced bound lent given s t
 run_traced (started e) = start_traced _ _ _ _ e
-run_traced (asked d run e) = step_traced _ _ d (run_traced run) (answer_took _ _ _ d _ e (ask_refused _ _))
-run_traced (finished d run e) = step_traced _ _ d (run_traced run) (answer_took _ _ _ d _ e (finished_refused _))
+run_traced (asked d run e) = step_traced _ _ d (run_traced run) (answer_took _ _ _ d _ e (answered _))
+run_traced (finished d run e) = step_traced _ _ d (run_traced run) (answer_took _ _ _ d _ e (answered _))

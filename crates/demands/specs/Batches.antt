@@ -1,11 +1,10 @@
 -- A host that goes over all vertices by `cells_trusting`, some at a time: it gets each once, with its dual cell. proofs/Batches.antt proves the four `Of..`.
-use Rattle.std.specs.Prelude.{ℕ, ◌+◌, ◌*◌, ◌-◌, ◌^◌, ◌≤◌, ◌<◌, ◌≡◌, List, [], ◌++◌, Float, length, get_or, take}
+use Rattle.std.specs.Prelude.{ℕ, ◌+◌, ◌*◌, ◌-◌, ◌^◌, ◌≤◌, ◌<◌, ◌≡◌, List, [], ◌++◌, Float, length, get_or, take, Ok}
 use Rattle.tree.specs.Tree.{Tree, Ascending, Sound}
 use Rattle.tree.specs.Down.{Nodes, nodes_of}
 use Rattle.geometry.specs.Listing.{Listed}
 use Rattle.vertices.specs.Walk.{spots_of, vertices_of, levels_of}
 use Rattle.vertices.specs.Cells.{since, places_of, places_at, Cells, cells_of, room_of, CellsSays}
-use Rattle.dual.specs.declared.Tried.TheVariants.{Keys}
 use Rattle.dual.specs.Dual.{DualCell, TrustingSays}
 
 -- ---- the places that go with a vertex
@@ -15,7 +14,7 @@ abbrev pub CellAt : Nodes → Cells → ℕ → Type 0
 CellAt ks got j =
     (ds : List Float)
     → (keys : List ℕ) × (distances : List Float) × (tried : ℕ)
-    × TrustingSays ks ds (get_or got.levels j 0) (get_or got.vertices j 0) keys distances (places_at j got.places) (Keys tried)
+    × TrustingSays ks ds (get_or got.levels j 0) (get_or got.vertices j 0) keys distances (places_at j got.places) (Ok tried)
 
 -- Of each vertex that a call hands out, on any tables at all.
 abbrev pub OfEachCall : Type 0

@@ -1,11 +1,11 @@
 -- Demand 3 of the user, the half that speaks of building, with demand 2's split rule for finite distances. proofs/Demands.antt proves each of these.
-use Rattle.std.specs.Prelude.{ℕ, ◌+◌, ◌*◌, ◌≤◌, ◌<◌, ◌≡◌, true, false, not, List, ◌∷◌, ◌++◌, reverse, length, get_or, take, Float}
+use Rattle.std.specs.Prelude.{ℕ, ◌+◌, ◌*◌, ◌≤◌, ◌<◌, ◌≡◌, true, false, not, List, ◌∷◌, ◌++◌, reverse, length, get_or, take, Float, Err}
 use Rattle.std.specs.Float.{nan}
 use Rattle.std.specs.Float.Ieee.Scale.{finite}
+use Rattle.refusals.specs.declared.Refusal.TheVariants.{NotFitting, NotFinite}
 use Rattle.morton.specs.Level.{level}
 use Rattle.morton.specs.Split.{splits}
 use Rattle.build.specs.declared.State.{State}
-use Rattle.build.specs.declared.Answer.TheVariants.{Refused}
 use Rattle.build.specs.Build.{Tables, finest, node_room, lengths_of, fits, distance_of}
 use Rattle.geometry.specs.Grid.{Covers}
 use Rattle.tree.specs.Tree.{In, Ascending, AllFinite, FirstChild, Decides}
@@ -17,11 +17,11 @@ pub record AfterEveryDistance (bound : ℕ) (lent : Tables) (given : List Float)
   pub covers : Covers (finest bound) (leaf_keys s t ++ open_cells s t)
   -- The state fits its tables: refusal 10 never comes, whatever distance is given next.
   pub fitting : fits s t ≡ true
-  pub never_10 : (d : Float) → (distance_of s d t).answer ≡ Refused 10 → ⊥
+  pub never_10 : (d : Float) → (distance_of s d t).answer ≡ Err NotFitting → ⊥
   -- While a cell is asked for, an infinite or NaN distance is refused with 16, full tables or not, and no finite one is. So every distance of a build is
   -- finite.
-  pub broken_refused : (s.asked ≡ 0 → ⊥) → (d : Float) → finite d ≡ false → (distance_of s d t).answer ≡ Refused 16
-  pub only_broken : (d : Float) → (distance_of s d t).answer ≡ Refused 16 → finite d ≡ false
+  pub broken_refused : (s.asked ≡ 0 → ⊥) → (d : Float) → finite d ≡ false → (distance_of s d t).answer ≡ Err NotFinite
+  pub only_broken : (d : Float) → (distance_of s d t).answer ≡ Err NotFinite → finite d ≡ false
   pub finite_given : AllFinite given
   -- There is a node for each distance, in the order given; node and leaf keys are strictly ascending.
   pub nodes : s.nodes ≡ length given

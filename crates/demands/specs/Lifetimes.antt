@@ -1,15 +1,14 @@
 -- From which slab to which slab the leaves of a tree are needed, for a host that frees a leaf's data after its last slab. proofs/Lifetimes.antt proves
 -- `LifetimesOfTrees`. `LifetimesSays`, `ListSays`, `SlabsSays` and `DualSays` are what the calls promise to answer and to leave.
-use Rattle.std.specs.Prelude.{ℕ, ◌+◌, ◌-◌, ◌^◌, ◌≤◌, ◌<◌, ◌≡◌, ◌⊎◌, length, get_or}
+use Rattle.std.specs.Prelude.{ℕ, ◌+◌, ◌-◌, ◌^◌, ◌≤◌, ◌<◌, ◌≡◌, ◌⊎◌, length, get_or, Ok, Err}
+use Rattle.refusals.specs.declared.Refusal.{Refusal}
+use Rattle.refusals.specs.Refusals.{number}
 use Rattle.tree.specs.Tree.{Tree, StandsAt, Sound}
 use Rattle.geometry.specs.Grid.{sum}
-use Rattle.vertices.specs.declared.ListAnswer.TheVariants.{Count}
 use Rattle.vertices.specs.Listing.{Lists, ListSays}
 use Rattle.dual.specs.declared.Dual.{Dual}
 use Rattle.dual.specs.Dual.{DualSays}
-use Rattle.slabs.specs.declared.SlabsAnswer.TheVariants.{Reach}
-use Rattle.slabs.specs.Heights.{SlabsSays}
-use Rattle.lifetimes.specs.declared.LifetimesAnswer.TheVariants.{Greatest, Refused}
+use Rattle.slabs.specs.Heights.{reach, SlabsSays}
 use Rattle.lifetimes.specs.Needed.{CellOf, Reports, Room, LifetimesSays}
 
 -- What stands in the report: the first and the last slab of leaf i.
@@ -42,8 +41,8 @@ pub record Lifetimes (t : Tree) (s : ℕ) (left : Reports) (most : ℕ) : Type 0
   -- Of a tree that isn't the root alone every leaf is needed at some slab, and no leaf past the last one.
   pub every : 1 < length t.keys → (i : ℕ) → i < length t.leaves → (first_of left i ≤ last_of left i) × (last_of left i < 2 ^ s)
   -- Nothing is freed too early: every node that a listed cell reads at a slab from the cell's first to its last is a leaf that is kept there.
-  pub in_time : (start n : ℕ) (before after : Lists) → ListSays t start before after (Count n) → (j : ℕ) → j < n
-      → (first last : ℕ) → SlabsSays t (level_at after start j) (vertex_at after start j) s (Reach first last)
+  pub in_time : (start n : ℕ) (before after : Lists) → ListSays t start before after (Ok n) → (j : ℕ) → j < n
+      → (first last : ℕ) → SlabsSays t (level_at after start j) (vertex_at after start j) s (reach first last)
       → (c : Dual) → DualSays t (level_at after start j) (vertex_at after start j) c.keys c.distances c.places c.tried
       → (slab : ℕ) → first ≤ slab → slab ≤ last → (o : ℕ) → o < 8 → LeafKept t left slab (get_or c.keys o 0)
   -- Nothing is kept longer than it must: a listed cell that has the leaf begins at its first slab, and one ends at its last.
@@ -65,8 +64,8 @@ WhyNoReport t s was k =
     ⊎ (Sound t × (s ≤ 15) × (Room (length t.leaves) s was → ⊥) × (k ≡ 17)))
 
 abbrev pub LifetimesOfTrees : Type 0
-LifetimesOfTrees = (t : Tree) (s : ℕ) (was left : Reports) (most : ℕ) → LifetimesSays t s was left (Greatest most) → Lifetimes t s left most
+LifetimesOfTrees = (t : Tree) (s : ℕ) (was left : Reports) (most : ℕ) → LifetimesSays t s was left (Ok most) → Lifetimes t s left most
 
 -- A refused call leaves the tables as they were.
 abbrev pub LifetimesRefused : Type 0
-LifetimesRefused = (t : Tree) (s : ℕ) (was left : Reports) (k : ℕ) → LifetimesSays t s was left (Refused k) → (left ≡ was) × WhyNoReport t s was k
+LifetimesRefused = (t : Tree) (s : ℕ) (was left : Reports) (k : Refusal) → LifetimesSays t s was left (Err k) → (left ≡ was) × WhyNoReport t s was (number k)

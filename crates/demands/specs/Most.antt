@@ -1,11 +1,11 @@
 -- How many vertices a tree has at most, so that a host can lend a list that is never refused. proofs/Most.antt proves each of these.
-use Rattle.std.specs.Prelude.{ℕ, ◌+◌, ◌-◌, ◌*◌, ◌≤◌, ◌≡◌, List, Float, length}
+use Rattle.std.specs.Prelude.{ℕ, ◌+◌, ◌-◌, ◌*◌, ◌≤◌, ◌≡◌, List, Float, length, Err}
+use Rattle.refusals.specs.declared.Refusal.{Refusal}
 use Rattle.morton.specs.Level.{level}
 use Rattle.build.specs.declared.State.{State}
 use Rattle.build.specs.Build.{Tables}
 use Rattle.tree.specs.Tree.{Tree, In, Sound}
 use Rattle.geometry.specs.Listing.{Listed}
-use Rattle.vertices.specs.declared.ListAnswer.TheVariants.{Refused}
 use Rattle.vertices.specs.Listing.{Lists, Room, ListSays}
 use Rattle.demands.specs.Run.{Run}
 use Rattle.demands.specs.Reading.{tree_after}
@@ -22,7 +22,7 @@ pub record MostVertices (splits : ℕ) (t : Tree) : Type 0 where
   -- It has at most so many vertices,
   pub at_most : (vertices levels : List ℕ) → Listed t.leaves vertices levels → length vertices ≤ most splits
   -- and a list with room for so many isn't refused.
-  pub enough : (start k : ℕ) (was left : Lists) → Room start (most splits) was → ListSays t start was left (Refused k) → ⊥
+  pub enough : (start : ℕ) (k : Refusal) (was left : Lists) → Room start (most splits) was → ListSays t start was left (Err k) → ⊥
 
 -- For every sound tree in which neither the root nor a child of it is a leaf.
 abbrev pub MostOfSoundTrees : Type 0

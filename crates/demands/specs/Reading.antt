@@ -1,7 +1,9 @@
 -- Demand 3 of the user, the half that speaks of a finished build. proofs/Reading.antt proves each of these, for a finished build and for any sound tree:
 -- a tree that was read from a card is sound and was never built here.
-use Rattle.std.specs.Prelude.{ℕ, ◌+◌, ◌^◌, ◌≤◌, ◌<◌, ◌≡◌, true, List, Float, length, get_or, take, drop}
+use Rattle.std.specs.Prelude.{ℕ, ◌+◌, ◌^◌, ◌≤◌, ◌<◌, ◌≡◌, true, List, Float, length, get_or, take, drop, Result, Ok, Err}
 use Rattle.std.specs.Float.{nan}
+use Rattle.refusals.specs.declared.Refusal.{Refusal}
+use Rattle.refusals.specs.declared.Refusal.TheVariants.{ListFull}
 use Rattle.morton.specs.Level.{deepest, level}
 use Rattle.morton.specs.Vertex.{is_inner, side_of}
 use Rattle.build.specs.declared.State.{State}
@@ -9,11 +11,8 @@ use Rattle.build.specs.Build.{Tables, finest}
 use Rattle.tree.specs.Tree.{Tree, StandsAt, In, Ascending, Sound}
 use Rattle.geometry.specs.Grid.{lies_in, Covers}
 use Rattle.geometry.specs.Corner.{Corner, StrictlyInside}
-use Rattle.vertices.specs.declared.ListAnswer.{ListAnswer}
-use Rattle.vertices.specs.declared.ListAnswer.TheVariants.{Count, Refused}
 use Rattle.vertices.specs.Listing.{Lists, Room, ListSays}
 use Rattle.dual.specs.declared.Dual.{Dual}
-use Rattle.dual.specs.declared.Tried.TheVariants as tried
 use Rattle.dual.specs.Dual.{DualCell, DualSays}
 use Rattle.demands.specs.Run.{Run, node_keys, leaf_keys}
 
@@ -48,8 +47,8 @@ pub record Answered (t : Tree) : Type 0 where
   pub vertices : List ℕ
   pub levels : List ℕ
   pub corners : ListsCorners t.leaves vertices levels
-  pub room : (start : ℕ) (was left : Lists) (a : ListAnswer) → ListSays t start was left a → Room start (length vertices) was → a ≡ Count (length vertices)
-  pub no_room : (start : ℕ) (was left : Lists) (a : ListAnswer) → ListSays t start was left a → (Room start (length vertices) was → ⊥) → a ≡ Refused 12
+  pub room : (start : ℕ) (was left : Lists) (a : Result ℕ Refusal) → ListSays t start was left a → Room start (length vertices) was → a ≡ Ok (length vertices)
+  pub no_room : (start : ℕ) (was left : Lists) (a : Result ℕ Refusal) → ListSays t start was left a → (Room start (length vertices) was → ⊥) → a ≡ Err ListFull
 
 -- k is the one leaf that holds the cell f of the finest grid, d its distance and place where it stands.
 pub record HoldsAlone (D : ℕ) (t : Tree) (f k : ℕ) (d : Float) (place : ℕ) : Type 0 where
@@ -61,7 +60,7 @@ pub record HoldsAlone (D : ℕ) (t : Tree) (f k : ℕ) (d : Float) (place : ℕ)
 
 -- The dual cell r of the vertex v: entry i is the one leaf that holds the finest cell on side i, with that leaf's distance and place. It isn't refused.
 pub record LeafCell (D : ℕ) (t : Tree) (v : ℕ) (r : Dual) : Type 0 where
-  pub answered : (k : ℕ) → r.tried ≡ tried.Refused k → ⊥
+  pub answered : (k : Refusal) → r.tried ≡ Err k → ⊥
   pub entry : (i : ℕ) → i < 8 → HoldsAlone D t (side_of D v i) (get_or r.keys i 0) (get_or r.distances i nan) (get_or r.places i 0)
 
 -- The n places of a table from the start place on.
@@ -75,10 +74,10 @@ pub record Reading (D : ℕ) (t : Tree) : Type 0 where
   -- The list is refused for want of room only. Where it has room, every leaf corner strictly inside the cube is listed once, at the deepest level of the
   -- leaves that have that corner; nothing else is listed.
   pub answered : Answered t
-  pub list : (start n : ℕ) (was left : Lists) → ListSays t start was left (Count n)
+  pub list : (start n : ℕ) (was left : Lists) → ListSays t start was left (Ok n)
       → ListsCorners t.leaves (part start n left.vertices) (part start n left.levels)
   -- Entry i of the dual cell of each listed vertex is the one leaf that holds the finest cell on side i, with that leaf's distance and place.
-  pub dual : (start n : ℕ) (was left : Lists) → ListSays t start was left (Count n)
+  pub dual : (start n : ℕ) (was left : Lists) → ListSays t start was left (Ok n)
       → (j : ℕ) → j < n → (r : Dual)
       → DualSays t (get_or left.levels (start + j) 0) (get_or left.vertices (start + j) 0) r.keys r.distances r.places r.tried
       → LeafCell D t (get_or left.vertices (start + j) 0) r

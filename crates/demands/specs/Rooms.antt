@@ -1,8 +1,9 @@
 -- Which lengths of the lent tables are enough for a build, and which never are. proofs/Rooms.antt proves each of these.
-use Rattle.std.specs.Prelude.{ℕ, ◌+◌, ◌-◌, ◌*◌, ◌/◌, ◌≤◌, ◌<◌, ◌≡◌, true, cond, List, length, Float}
+use Rattle.std.specs.Prelude.{ℕ, ◌+◌, ◌-◌, ◌*◌, ◌/◌, ◌≤◌, ◌<◌, ◌≡◌, true, cond, List, length, Float, Err}
 use Rattle.std.specs.Float.Ieee.Scale.{finite}
+use Rattle.refusals.specs.declared.Refusal.{Refusal}
+use Rattle.refusals.specs.declared.Refusal.TheVariants.{LeavesFull}
 use Rattle.build.specs.declared.State.{State}
-use Rattle.build.specs.declared.Answer.TheVariants.{Refused}
 use Rattle.build.specs.Build.{Tables, node_room, lengths_of, split_of, distance_of}
 use Rattle.demands.specs.Run.{Run}
 use Rattle.demands.specs.Reading.{tree_after}
@@ -23,14 +24,14 @@ abbrev pub EnoughRoom : Type 0
 EnoughRoom =
     (n bound : ℕ) (lent : Tables) (given : List Float) (s : State) (t : Tables)
     → RoomFor n lent → Run bound lent given s t → (s.asked ≡ 0 → ⊥)
-    → (d : Float) → finite d ≡ true → (k : ℕ) → (distance_of s d t).answer ≡ Refused k → n < nodes_with s d
+    → (d : Float) → finite d ≡ true → (k : Refusal) → (distance_of s d t).answer ≡ Err k → n < nodes_with s d
 
 -- With room for as many nodes as the node room says there is always room for another leaf.
 abbrev pub EnoughLeaves : Type 0
 EnoughLeaves =
     (bound : ℕ) (lent : Tables) (given : List Float) (s : State) (t : Tables)
     → RoomFor (node_room (lengths_of lent)) lent → Run bound lent given s t
-    → (d : Float) → (distance_of s d t).answer ≡ Refused 7 → ⊥
+    → (d : Float) → (distance_of s d t).answer ≡ Err LeavesFull → ⊥
 
 -- So distances that finish a build on some tables finish it, with the same tree, on all tables with room for its nodes.
 abbrev pub Finishes : Type 0

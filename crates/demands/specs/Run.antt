@@ -1,5 +1,5 @@
 -- A build from its start, and the cells it has at hand. Assumes nothing.
-use Rattle.std.specs.Prelude.{ℕ, zero, suc, ◌+◌, ◌-◌, ◌*◌, ◌≡◌, cond, List, [], ◌∷◌, ◌++◌, eqb, take, Float}
+use Rattle.std.specs.Prelude.{ℕ, zero, suc, ◌+◌, ◌-◌, ◌*◌, ◌≡◌, cond, List, [], ◌∷◌, ◌++◌, eqb, take, Float, Ok}
 use Rattle.morton.specs.Level.{level}
 use Rattle.morton.specs.Split.{splits}
 use Rattle.build.specs.declared.Request.{Request}
@@ -10,11 +10,11 @@ use Rattle.build.specs.Build.{Tables, outcome, item_at, start_of, distance_of}
 -- Each call gets the state and the tables exactly as the last accepted call left them; `start_of` and `distance_of` are what the calls promise to
 -- answer and to leave. `given` are the accepted distances, the last one first.
 pub data Run (bound : ℕ) (lent : Tables) : List Float → State → Tables → Type 0 where
-  started : {r : Request} {s : State} → start_of bound lent ≡ Ask r s → Run bound lent [] s lent
+  started : {r : Request} {s : State} → start_of bound lent ≡ Ok (Ask r s) → Run bound lent [] s lent
   asked : {given : List Float} {r : Request} {s s' : State} {t t' : Tables} (d : Float)
-      → Run bound lent given s t → distance_of s d t ≡ outcome (Ask r s') t' → Run bound lent (d ∷ given) s' t'
+      → Run bound lent given s t → distance_of s d t ≡ outcome (Ok (Ask r s')) t' → Run bound lent (d ∷ given) s' t'
   finished : {given : List Float} {s s' : State} {t t' : Tables} (d : Float)
-      → Run bound lent given s t → distance_of s d t ≡ outcome (Finished s') t' → Run bound lent (d ∷ given) s' t'
+      → Run bound lent given s t → distance_of s d t ≡ outcome (Ok (Finished s')) t' → Run bound lent (d ∷ given) s' t'
 
 -- The keys of the nodes and of the leaves so far.
 abbrev pub node_keys : State → Tables → List ℕ

@@ -9,28 +9,30 @@ use lib.Dec.{eqb, ltb}
 use lib.ListN.{length, get_or}
 use lib.Ieee.{Float, nan}
 use borrow.Author.Tests.{le-ltb, ltb-false, eq-eqb}
+use Rattle.std.specs.Prelude.{Result, Ok, Err, ⊤}
+use Rattle.refusals.specs.Refusals.{number}
+use Rattle.refusals.specs.declared.Refusal.{Refusal}
+use Rattle.refusals.specs.declared.Refusal.TheVariants.{AboveFifteen, NothingAsked, NotFitting, NotFinite}
+use Rattle.refusals.proofs.Numbers.{number_apart, some_number}
+use Rattle.slabs.specs.declared.Reach.{Reach}
+use Rattle.slabs.specs.Heights.{reach as slabs-reached}
 use Rattle.morton.specs.Level.{limit}
 use Rattle.morton.specs.Vertex.{side_of}
 use Rattle.build.specs.declared.Lengths.{Lengths}
 use Rattle.build.specs.declared.Request.{Request}
 use Rattle.build.specs.declared.State.{State}
 use Rattle.build.specs.declared.Answer.{Answer}
-use Rattle.build.specs.declared.Answer.TheVariants.{Ask, Finished, Refused}
-use Rattle.build.specs.Build.{Tables, Outcome, outcome, lengths_of, request_of, refusal_of, split_of, distance_of, start_of}
-use Rattle.build.proofs.Laws.{call_refused}
+use Rattle.build.specs.declared.Answer.TheVariants.{Ask, Finished}
+use Rattle.build.specs.Build.{number_of, Tables, Outcome, outcome, lengths_of, request_of, refusal_of, split_of, distance_of, start_of, start_at}
+use Rattle.build.proofs.Laws.{refused}
 use Rattle.tree.specs.Tree.{Tree, Sound}
-use Rattle.vertices.specs.declared.ListAnswer.TheVariants as list
 use Rattle.vertices.specs.Listing.{Lists, ListSays}
 use Rattle.dual.specs.declared.Dual.{Dual}
-use Rattle.dual.specs.declared.Tried.{Tried}
-use Rattle.dual.specs.declared.Tried.TheVariants as tried
-use Rattle.slabs.specs.declared.SlabsAnswer.{SlabsAnswer}
-use Rattle.slabs.specs.declared.SlabsAnswer.TheVariants as slabs
 use Rattle.demands.specs.Run.{Run}
 use Rattle.demands.specs.Run.Run.{started as run-started, asked as run-asked, finished as run-finished}
 use Rattle.demands.specs.Reading.{HoldsAlone, LeafCell, Reading}
 use Rattle.demands.specs.Slabs.{HasVertex}
-use Rattle.demands.proofs.Call.{ask_refused, distance_ends}
+use Rattle.demands.proofs.Call.{answered, distance_ends}
 use Rattle.demands.proofs.Trace.{leaves_count, run_traced}
 use Rattle.demands.proofs.Fits.{count_done, refusal_broken, refusal_16}
 use Rattle.demands.proofs.Demands.{building, queue_of_64}
@@ -47,7 +49,7 @@ use Rattle.hosts.specs.HostRun.HostRun.{started, told}
 use Rattle.hosts.specs.Hosts.{IsABuild, InReach}
 use Rattle.hosts.specs.Hosts.{returned, HostsBuilding, HostsQueueOf64, dual_in, HostsReading, HostsFinished, StartReturns, DistanceReturns}
 use Rattle.hosts.specs.Hosts.{RefusedStart, RefusedDistance, Requests, StartRequests, DistanceRequests, Alike, BroughtBackLater, GoesOnAsBefore, BroughtBackAnywhere}
-use Rattle.hosts.proofs.Handed.{StartSaid, start_said, Said, said, Asks, distance_asks, distance_refused, number_is, asks_nothing, nothing_asked}
+use Rattle.hosts.proofs.Handed.{StartSaid, start_said, Said, said, Asks, distance_asks, number_is, asks_nothing, nothing_asked}
 use Rattle.hosts.proofs.Handed.StartSaid.{declines, begins}
 use Rattle.hosts.proofs.Handed.Said.{refuses, asks, ends}
 
@@ -83,28 +85,28 @@ is_a_build host bound lent given words t h = (host_run h).0
 -- ---- each build is in reach of every host
 
 reach_start : (bound : ℕ) (lent : Tables) (words : List ℕ) (places : Request) → length words ≡ 9
-    → (r : Request) (s : State) → start_of bound lent ≡ Ask r s → start_replies bound lent words places ≡ reply 0 (words_of s) r
-unfolding start_of hand_over
+    → (r : Request) (s : State) → start_of bound lent ≡ Ok (Ask r s) → start_replies bound lent words places ≡ reply 0 (words_of s) r
+unfolding start_of start_at hand_over
 reach_start bound lent words places l r s e =
-    sym (start_over bound lent words places (Ask r s) (reply 0 (words_of s) r) (low (ltb limit bound) refl (request_of 1) _ e) l (sym e) refl)
+    sym (start_over bound lent words places (Ok (Ask r s)) (reply 0 (words_of s) r) (low (ltb limit bound) refl (request_of 1) _ e) l (sym e) refl)
   where
-    low : (b : Bool) → ltb limit bound ≡ b → (q : Request) (x : State) → cond b (Refused 5) (Ask q x) ≡ Ask r s → bound ≤ limit
-    low true f q x e = absurd (ask_refused r s 5 (sym e))
+    low : (b : Bool) → ltb limit bound ≡ b → (q : Request) (x : State) → cond {A = Result Answer Refusal} b (Err AboveFifteen) (Ok (Ask q x)) ≡ Ok (Ask r s) → bound ≤ limit
+    low true f q x e = absurd (answered (Ask r s) AboveFifteen (sym e))
     low false f q x e = ltb-false limit bound f
 
 -- what the build answers is handed over from the words of its state
-reach_on : (s : State) (d : Float) (t : Tables) (places : Request) (a : Answer) (t' : Tables) → distance_of s d t ≡ outcome a t'
+reach_on : (s : State) (d : Float) (t : Tables) (places : Request) (a : Result Answer Refusal) (t' : Tables) → distance_of s d t ≡ outcome a t'
     → distance_effect (words_of s) d t places ≡ effect (hand_over a (words_of s) places) t'
 reach_on s d t places a t' e =
-    sym (distance_over (words_of s) d t places (outcome a t') (hand_over a (words_of s) places) (words_are_nine s)
+    sym (distance_over (words_of s) d t places a t' (hand_over a (words_of s) places) (words_are_nine s)
     (sym (ap (λ (x : State). distance_of x d t) (read_back s) ∙ e)) refl)
 
 module _ (host : Host) (nine : length host.words ≡ 9) {bound : ℕ} {lent : Tables} where
   reach : {given : List Float} {s : State} {t : Tables} → Run bound lent given s t → HostRun host bound lent given (words_of s) t
   unfolding hand_over
   reach (run-started {r} {s} e) = started (reach_start bound lent host.words (host.places 0) nine r s e)
-  reach (run-asked {given} {r} {s} {s'} {t} {t'} d h e) = told d (reach h) (reach_on s d t (host.places (suc (length given))) (Ask r s') t' e)
-  reach (run-finished {given} {s} {s'} {t} {t'} d h e) = told d (reach h) (reach_on s d t (host.places (suc (length given))) (Finished s') t' e)
+  reach (run-asked {given} {r} {s} {s'} {t} {t'} d h e) = told d (reach h) (reach_on s d t (host.places (suc (length given))) (Ok (Ask r s')) t' e)
+  reach (run-finished {given} {s} {s'} {t} {t'} d h e) = told d (reach h) (reach_on s d t (host.places (suc (length given))) (Ok (Finished s')) t' e)
 
 pub in_reach : InReach
 in_reach host nine bound lent given s t h = reach host nine h
@@ -114,15 +116,20 @@ in_reach host nine bound lent given s t h = reach host nine h
 told_read : (words : List ℕ) → length words ≡ 9 → Told words (state_of words)
 told_read words l = subst (λ (w : List ℕ). Told w (state_of words)) (written_back words l) (words_told (state_of words))
 
+-- what a number says is refused, is
+is_refusal : (b : Result ⊤ Refusal) (k : Refusal) → number_of b ≡ number k → b ≡ Err k
+is_refusal (Ok u) k e = absurd (some_number k (sym e))
+is_refusal (Err j) k e = ap Err (number_apart j k e)
+
 pub hosts_building : HostsBuilding
-unfolding lengths_of
+unfolding lengths_of distance_of
 hosts_building host bound lent given words t h =
     let r = host_run h in
     let s = state_of words in
     let a = building bound lent given s t r.0 in
     let k = run_traced r.0 in
     let w = told_read words r.1 in
-    let at : (d : Float) (places : Request) → returned words d t places ≡ refusal_of s (split_of s d) d t = λ d places. number_is words d t places r.1 in
+    let at : (d : Float) (places : Request) → returned words d t places ≡ number_of (refusal_of s (split_of s d) d t) = λ d places. number_is words d t places r.1 in
     record {
       after = a;
       nine = r.1;
@@ -130,17 +137,17 @@ hosts_building host bound lent given words t h =
       word_0 = w.bound ∙ k.bound_same;
       word_1 = w.nodes ∙ a.nodes;
       word_2 = sym (rw w.leaves (leaves_count s t k));
-      word_3_ends = λ e d places. at d places ∙ asks_nothing s (split_of s d) d t a.fitting (sym w.asked ∙ e);
-      word_3_asks = λ d places e. w.asked ∙ nothing_asked s (split_of s d) d t (sym (at d places) ∙ e);
+      word_3_ends = λ e d places. at d places ∙ ap number_of (asks_nothing s (split_of s d) d t a.fitting (sym w.asked ∙ e));
+      word_3_asks = λ d places e. w.asked ∙ nothing_asked s (split_of s d) d t (is_refusal _ NothingAsked (sym (at d places) ∙ e));
       word_4 = w.keys_length ∙ ap (λ (z : Lengths). z.keys) k.lengths_same;
       word_5 = w.distances_length ∙ ap (λ (z : Lengths). z.distances) k.lengths_same;
       word_6 = w.firsts_length ∙ ap (λ (z : Lengths). z.firsts) k.lengths_same;
       word_7 = w.leaves_length ∙ ap (λ (z : Lengths). z.leaves) k.lengths_same;
       word_8 = w.queue_length ∙ ap (λ (z : Lengths). z.queue) k.lengths_same;
       never_10 = λ d places e.
-          a.never_10 d (ap (λ (o : Outcome). o.answer) (sym (call_refused s t d 10 (sym e ∙ at d places) (λ z. omega (arith, z)))));
-      broken_16 = λ asks d places f. at d places ∙ refusal_broken s (split_of s d) d t a.fitting (λ z. asks (w.asked ∙ z)) f;
-      only_16 = λ d places e. refusal_16 s (split_of s d) d t (sym (at d places) ∙ e);
+          a.never_10 d (ap (λ (o : Outcome). o.answer) (sym (refused s (split_of s d) d t NotFitting (is_refusal _ NotFitting (sym (at d places) ∙ e)))));
+      broken_16 = λ asks d places f. at d places ∙ ap number_of (refusal_broken s (split_of s d) d t a.fitting (λ z. asks (w.asked ∙ z)) f);
+      only_16 = λ d places e. refusal_16 s (split_of s d) d t (is_refusal _ NotFinite (sym (at d places) ∙ e));
     }
 
 pub hosts_queue_of_64 : HostsQueueOf64
@@ -150,34 +157,34 @@ hosts_queue_of_64 host bound lent given nine low room leaves queue l all =
 
 -- from what the calls on a tree answer to what they hand over
 module _ {D : ℕ} {tree : Tree} (sound : Sound tree) (h : Reading D tree) where
-  refused_12 : (start k : ℕ) (before left : Lists) → ListSays tree start before left (list.Refused k) → k ≡ 12
-  refused_12 start k before left (_, why) = ⊎_elim (λ x. absurd (x.0 sound)) (λ x. x.2) why
+  refused_12 : (start : ℕ) (k : Refusal) (before left : Lists) → ListSays tree start before left (Err k) → number k ≡ 12
+  refused_12 start k before left (_, why) = ⊎_elim (λ x. absurd (x.0 sound)) (λ x. ap number x.2) why
 
-  listed : (start count was : ℕ) (before left : Lists) → HandsList tree start before left was 0 count → ListSays tree start before left (list.Count count)
-  listed start count was before left (list.Count n, says, (_, e)) = subst (λ (m : ℕ). ListSays tree start before left (list.Count m)) (sym e) says
-  listed start count was before left (list.Refused k, says, (z, _)) = absurd (omega (arith, z, refused_12 start k before left says))
+  listed : (start count was : ℕ) (before left : Lists) → HandsList tree start before left was 0 count → ListSays tree start before left (Ok count)
+  listed start count was before left (Ok n, says, (_, e)) = subst (λ (m : ℕ). ListSays tree start before left (Ok m)) (sym e) says
+  listed start count was before left (Err k, says, (z, _)) = absurd (omega (arith, z, refused_12 start k before left says))
 
   full : (start count was k : ℕ) (before left : Lists) → HandsList tree start before left was k count → (k ≡ 0 → ⊥) → k ≡ 12
-  full start count was k before left (list.Count n, says, (z, _)) some = absurd (some z)
-  full start count was k before left (list.Refused m, says, (z, _)) some = z ∙ refused_12 start m before left says
+  full start count was k before left (Ok n, says, (z, _)) some = absurd (some z)
+  full start count was k before left (Err m, says, (z, _)) some = z ∙ refused_12 start m before left says
 
   eight_entries : (v k : ℕ) (then out : Eight) (a : Dual) → LeafCell D tree v a → HandsEight a.keys a.distances a.places a.tried then k out
       → (k ≡ 0) × LeafCell D tree v (dual_in out)
   eight_entries v k then out a c = go a.tried refl
     where
-      go : (b : Tried) → a.tried ≡ b → HandsEight a.keys a.distances a.places b then k out → (k ≡ 0) × LeafCell D tree v (dual_in out)
-      go (tried.Keys n) e (z, o) = (
+      go : (b : Result ℕ Refusal) → a.tried ≡ b → HandsEight a.keys a.distances a.places b then k out → (k ≡ 0) × LeafCell D tree v (dual_in out)
+      go (Ok n) e (z, o) = (
         z,
         record {
           answered = λ m f. let z : ◌≡◌ {A = ℕ} 0 1 = cc in omega arith;
           entry = subst (λ (x : Eight). (i : ℕ) → i < 8 → HoldsAlone D tree (side_of D v i) (get_or x.keys i 0) (get_or x.distances i nan) (get_or x.places i 0)) (sym o) c.entry;
         },
       )
-      go (tried.Refused m) e _ = absurd (c.answered m e)
+      go (Err m) e _ = absurd (c.answered m e)
 
-  span : (s v k : ℕ) (then out : Span) (a : SlabsAnswer) → HasVertex s v a → HandsSpan a then k out → (k ≡ 0) × HasVertex s v (slabs.Reach out.first out.last)
-  span s v k then out (slabs.Reach first last) has (z, o) = (z, subst (λ (x : Span). HasVertex s v (slabs.Reach x.first x.last)) (sym o) has)
-  span s v k then out (slabs.Refused m) has _ = absurd has
+  span : (s v k : ℕ) (then out : Span) (a : Result Reach Refusal) → HasVertex s v a → HandsSpan a then k out → (k ≡ 0) × HasVertex s v (slabs-reached out.first out.last)
+  span s v k then out (Ok y) has (z, o) = (z, subst (λ (x : Span). HasVertex s v (slabs-reached x.first x.last)) (sym o) has)
+  span s v k then out (Err m) has _ = absurd has
 
   hosts_reading : HostsReading D tree
   hosts_reading =
@@ -200,7 +207,7 @@ hosts_finished host bound lent given words t h done =
 -- ---- what is returned
 
 pub start_returns : StartReturns
-unfolding start_replies start_of hand_over
+unfolding start_replies start_of start_at hand_over
 start_returns bound t words places = (
   λ h. ap (λ (r : Reply). r.number) (sym (start_deep bound t words places h)),
   λ h n. ap (λ (r : Reply). r.number) (sym (start_wordless bound t words places h n)),
@@ -273,19 +280,19 @@ requested_at_distance host bound lent given words words' d t t' places request h
 -- ---- a copy brought back
 
 module _ (words : List ℕ) (d : Float) (t : Tables) (before later : Request) where
-  handed_alike : (a : Answer) (t' : Tables) → distance_of (state_of words) d t ≡ outcome a t'
+  handed_alike : (a : Result Answer Refusal) (t' : Tables) → distance_of (state_of words) d t ≡ outcome a t'
       → Alike (effect (hand_over a words before) t') (effect (hand_over a words later) t')
   unfolding hand_over
-  handed_alike (Ask r s) t' e = record { number = refl; words = refl; tables = refl; request = λ _ _. refl }
-  handed_alike (Finished s) t' e =
+  handed_alike (Ok (Ask r s)) t' e = record { number = refl; words = refl; tables = refl; request = λ _ _. refl }
+  handed_alike (Ok (Finished s)) t' e =
       record {
         number = refl;
         words = refl;
         tables = refl;
         request = λ _ n. absurd (n ((words_told s).asked ∙ distance_ends (state_of words) d t s (ap (λ (o : Outcome). o.answer) e)));
       }
-  handed_alike (Refused k) t' e =
-      record { number = refl; words = refl; tables = refl; request = λ z _. absurd ((distance_refused (state_of words) d t k t' e).0 z) }
+  handed_alike (Err k) t' e =
+      record { number = refl; words = refl; tables = refl; request = λ z _. absurd (some_number k z) }
 
 pub brought_back_later : BroughtBackLater
 unfolding distance_effect effect_of

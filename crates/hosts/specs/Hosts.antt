@@ -1,14 +1,13 @@
 -- What holds for a host behind the C boundary: all that the demands say of builds and of finished ones. proofs/Hosts.antt proves each of these.
-use Rattle.std.specs.Prelude.{ℕ, ◌+◌, ◌≤◌, ◌<◌, ◌≡◌, false, List, ◌∷◌, length, get_or, Float}
+use Rattle.std.specs.Prelude.{ℕ, ◌+◌, ◌≤◌, ◌<◌, ◌≡◌, false, List, ◌∷◌, length, get_or, Float, Ok}
 use Rattle.std.specs.Float.Ieee.Scale.{finite}
+use Rattle.slabs.specs.Heights.{reach}
 use Rattle.build.specs.declared.Request.{Request}
 use Rattle.build.specs.declared.State.{State}
-use Rattle.build.specs.Build.{Tables, finest, node_room, lengths_of, request_of, refusal_of, split_of}
+use Rattle.build.specs.Build.{number_of, Tables, finest, node_room, lengths_of, request_of, refusal_of, split_of}
 use Rattle.tree.specs.Tree.{Tree, AllFinite, Sound}
 use Rattle.vertices.specs.Listing.{Lists}
 use Rattle.dual.specs.declared.Dual.{Dual}
-use Rattle.dual.specs.declared.Tried.TheVariants.{Keys}
-use Rattle.slabs.specs.declared.SlabsAnswer.TheVariants.{Reach}
 use Rattle.demands.specs.Run.{Run}
 use Rattle.demands.specs.Demands.{AfterEveryDistance}
 use Rattle.demands.specs.Reading.{ListsCorners, LeafCell, part, Reading}
@@ -79,7 +78,7 @@ HostsQueueOf64 =
 
 -- What is handed over as eight keys, eight distances, eight places and the number tried.
 abbrev pub dual_in : Eight → Dual
-dual_in out = record { keys = out.keys; distances = out.distances; places = out.places; tried = Keys out.tried }
+dual_in out = record { keys = out.keys; distances = out.distances; places = out.places; tried = Ok out.tried }
 
 -- What a host reads from a tree: `HandsList`, `HandsDual` and `HandsSlabs` are what the exported calls promise.
 pub record HostsReading (D : ℕ) (tree : Tree) : Type 0 where
@@ -97,7 +96,7 @@ pub record HostsReading (D : ℕ) (tree : Tree) : Type 0 where
   pub slabs : (start count was : ℕ) (before left : Lists) → HandsList tree start before left was 0 count
       → (j k s : ℕ) → j < count → s ≤ 15 → (then out : Span)
       → HandsSlabs tree (get_or left.levels (start + j) 0) (get_or left.vertices (start + j) 0) s then k out
-      → (k ≡ 0) × HasVertex s (get_or left.vertices (start + j) 0) (Reach out.first out.last)
+      → (k ≡ 0) × HasVertex s (get_or left.vertices (start + j) 0) (reach out.first out.last)
 
 -- Of a finished build the first n keys, distances and first children and the first m leaves are a sound tree, and are read right.
 abbrev pub HostsFinished : Type 0
@@ -121,7 +120,7 @@ abbrev pub DistanceReturns : Type 0
 DistanceReturns =
     (words : List ℕ) (d : Float) (t : Tables) (places : Request)
     → ((length words ≡ 9 → ⊥) → returned words d t places ≡ 10)
-    × (length words ≡ 9 → returned words d t places ≡ refusal_of (state_of words) (split_of (state_of words) d) d t)
+    × (length words ≡ 9 → returned words d t places ≡ number_of (refusal_of (state_of words) (split_of (state_of words) d) d t))
 
 -- ---- what stands in a host's places
 

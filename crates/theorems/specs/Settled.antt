@@ -1,8 +1,8 @@
 -- One answer only: of each public call, what it returns and every place of every table that it is lent are settled by its promise. A library's call has its own name here, an
 -- exported one that of the header.
-use Rattle.std.specs.Prelude.{ℕ, min, max, ◌≡◌, Bool, ◌&&◌, List, leb, Float, get_or}
+use Rattle.std.specs.Prelude.{ℕ, min, max, ◌≡◌, Bool, ◌&&◌, List, leb, Float, get_or, Result}
+use Rattle.refusals.specs.declared.Refusal.{Refusal}
 use Rattle.morton.specs.declared.Key.{Key}
-use Rattle.morton.specs.declared.KeyAnswer.{KeyAnswer}
 use Rattle.morton.specs.Answers.{child_of, vertex_answer, side_answer, HalfSizeSays, CentreSays, ExtentSays}
 use Rattle.morton.specs.Field.{coord, add, sub}
 use Rattle.morton.specs.Level.{deepest, level, is_cell, parent_of}
@@ -22,7 +22,6 @@ use Rattle.build.specs.declared.State.{State}
 use Rattle.build.specs.declared.Answer.{Answer}
 use Rattle.build.specs.Build.{Tables, Outcome, start_of, distance_of}
 use Rattle.build.proofs.One as build
-use Rattle.vertices.specs.declared.ListAnswer.{ListAnswer}
 use Rattle.vertices.specs.Listing.{Lists, ListSays, TrustingSays as ListTrustingSays}
 use Rattle.vertices.specs.Cells.{Cells, CellsSays}
 use Rattle.vertices.proofs.One as vertices
@@ -31,7 +30,6 @@ use Rattle.dual.specs.Dual.{DualSays, TrustingSays as DualTrustingSays}
 use Rattle.dual.proofs.One as dual
 use Rattle.slabs.specs.Heights.{slab_at, SlabsSays, TrustingSays as SlabsTrustingSays}
 use Rattle.slabs.proofs.One as slabs
-use Rattle.lifetimes.specs.declared.LifetimesAnswer.{LifetimesAnswer}
 use Rattle.lifetimes.specs.Needed.{Reports, LifetimesSays}
 use Rattle.lifetimes.specs.Trusted.{TrustingSays as LifetimesTrustingSays}
 use Rattle.lifetimes.proofs.One as lifetimes
@@ -66,7 +64,7 @@ is_cell_one = morton.is_cell_one
 pub parent_one : (n : ℕ) → OnlyOne (λ (r : Key). r.code ≡ parent_of n)
 parent_one = morton.parent_one
 
-pub child_one : (n w : ℕ) → OnlyOne (λ (r : KeyAnswer). r ≡ child_of n w)
+pub child_one : (n w : ℕ) → OnlyOne (λ (r : Result Key Refusal). r ≡ child_of n w)
 child_one = morton.child_one
 
 pub add_one : (m n : ℕ) → OnlyOne (λ (r : Key). r.code ≡ add m n)
@@ -87,13 +85,13 @@ extent_one = morton.extent_one
 pub height_one : (n : ℕ) → OnlyOne (λ (r : ℕ). r ≡ coord (level n) n 2)
 height_one = morton.height_one
 
-pub vertex_one : (n L w : ℕ) → OnlyOne (λ (r : KeyAnswer). r ≡ vertex_answer n L w)
+pub vertex_one : (n L w : ℕ) → OnlyOne (λ (r : Result Key Refusal). r ≡ vertex_answer n L w)
 vertex_one = morton.vertex_one
 
 pub is_inner_one : (L v : ℕ) → OnlyOne (λ (r : Bool). r ≡ is_inner L v)
 is_inner_one = morton.is_inner_one
 
-pub side_one : (v L w : ℕ) → OnlyOne (λ (r : KeyAnswer). r ≡ side_answer v L w)
+pub side_one : (v L w : ℕ) → OnlyOne (λ (r : Result Key Refusal). r ≡ side_answer v L w)
 side_one = morton.side_one
 
 pub should_refine_one : (L bound : ℕ) (d : Float) → OnlyOne (λ (r : Bool). r ≡ (leb L deepest && splits L bound d))
@@ -106,7 +104,7 @@ to_bits_one = floats.to_bits_one
 
 -- ---- builds
 
-pub start_one : (bound : ℕ) (t : Tables) → OnlyOne (λ (r : Answer). r ≡ start_of bound t)
+pub start_one : (bound : ℕ) (t : Tables) → OnlyOne (λ (r : Result Answer Refusal). r ≡ start_of bound t)
 start_one = build.start_one
 
 pub distance_one : (s : State) (d : Float) (t : Tables) → OnlyOne (λ (o : Outcome). o ≡ distance_of s d t)
@@ -132,13 +130,13 @@ distance_at_one = tree.distance_at_one
 pub look_up_one : (t : Tree) (asked : ℕ) → OnlyOne (LookupSays t asked)
 look_up_one = tree.look_up_one
 
-pub look_up_trusting_one : (ks : Nodes) (ds : List Float) (k : ℕ) → OnlyOne (λ (r : Lookup). r ≡ trusting_of ks ds k)
+pub look_up_trusting_one : (ks : Nodes) (ds : List Float) (k : ℕ) → OnlyOne (λ (r : Result Lookup Refusal). r ≡ trusting_of ks ds k)
 look_up_trusting_one = tree.look_up_trusting_one
 
-pub list_one : (t : Tree) (start : ℕ) (was : Lists) → OnlyOne (λ (o : Lists × ListAnswer). ListSays t start was o.0 o.1)
+pub list_one : (t : Tree) (start : ℕ) (was : Lists) → OnlyOne (λ (o : Lists × Result ℕ Refusal). ListSays t start was o.0 o.1)
 list_one = vertices.list_one
 
-pub list_trusting_one : (ks : Nodes) (start : ℕ) (was : Lists) → OnlyOne (λ (o : Lists × ListAnswer). ListTrustingSays ks start was o.0 o.1)
+pub list_trusting_one : (ks : Nodes) (start : ℕ) (was : Lists) → OnlyOne (λ (o : Lists × Result ℕ Refusal). ListTrustingSays ks start was o.0 o.1)
 list_trusting_one = vertices.list_trusting_one
 
 pub cells_trusting_one : (ks : Nodes) (from : ℕ) (was : Cells) → OnlyOne (λ (o : Cells × ℕ). CellsSays ks from was o.0 o.1)
@@ -165,10 +163,10 @@ lesser_one = slabs.lesser_one
 pub greater_one : (a b : ℕ) → OnlyOne (λ (r : ℕ). r ≡ max a b)
 greater_one = slabs.greater_one
 
-pub lifetimes_one : (t : Tree) (s : ℕ) (was : Reports) → OnlyOne (λ (o : Reports × LifetimesAnswer). LifetimesSays t s was o.0 o.1)
+pub lifetimes_one : (t : Tree) (s : ℕ) (was : Reports) → OnlyOne (λ (o : Reports × Result ℕ Refusal). LifetimesSays t s was o.0 o.1)
 lifetimes_one = lifetimes.lifetimes_one
 
-pub lifetimes_trusting_one : (ks : Nodes) (s : ℕ) (was : Reports) → OnlyOne (λ (o : Reports × LifetimesAnswer). LifetimesTrustingSays ks s was o.0 o.1)
+pub lifetimes_trusting_one : (ks : Nodes) (s : ℕ) (was : Reports) → OnlyOne (λ (o : Reports × Result ℕ Refusal). LifetimesTrustingSays ks s was o.0 o.1)
 lifetimes_trusting_one = lifetimes.lifetimes_trusting_one
 
 -- ---- the line that `counts` prints
@@ -260,14 +258,14 @@ mittenhelm_lifetimes_trusting_one = most.lifetimes_trusting_one
 
 -- ---- what hands an answer to a host
 
-pub hand_found_one : (a : Lookup) (was : Found) → OnlyOne (λ (r : ℕ × Found). HandsFound a was r.0 r.1)
+pub hand_found_one : (a : Result Lookup Refusal) (was : Found) → OnlyOne (λ (r : ℕ × Found). HandsFound a was r.0 r.1)
 hand_found_one = reading.hand_found_one
 
 pub hand_eight_one : (a : Dual) (was : Eight) → OnlyOne (λ (r : ℕ × Eight). HandsEight a.keys a.distances a.places a.tried was r.0 r.1)
 hand_eight_one = reading.hand_eight_one
 
-pub hand_count_one : (a : ListAnswer) (was : ℕ) → OnlyOne (λ (r : ℕ × ℕ). HandsCount a was r.0 r.1)
+pub hand_count_one : (a : Result ℕ Refusal) (was : ℕ) → OnlyOne (λ (r : ℕ × ℕ). HandsCount a was r.0 r.1)
 hand_count_one = reading.hand_count_one
 
-pub hand_most_one : (a : LifetimesAnswer) (was : ℕ) → OnlyOne (λ (r : ℕ × ℕ). HandsMost a was r.0 r.1)
+pub hand_most_one : (a : Result ℕ Refusal) (was : ℕ) → OnlyOne (λ (r : ℕ × ℕ). HandsMost a was r.0 r.1)
 hand_most_one = most.hand_most_one

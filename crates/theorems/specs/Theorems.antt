@@ -1,8 +1,11 @@
 -- What README and the header tell of builds and trees as proved, beside the one answer of each call: sentence by sentence, by name and with its statement.
-use Rattle.std.specs.Prelude.{ℕ, ◌+◌, ◌*◌, ◌-◌, ◌/◌, ◌^◌, ◌≤◌, ◌<◌, ◌≡◌, true, false, not, ◌⊎◌, List, ◌∷◌, ◌++◌, reverse, Float, length, get_or, take}
+use Rattle.std.specs.Prelude.{ℕ, ◌+◌, ◌*◌, ◌-◌, ◌/◌, ◌^◌, ◌≤◌, ◌<◌, ◌≡◌, true, false, not, ◌⊎◌, List, ◌∷◌, ◌++◌, reverse, Float, length, get_or, take, Result, Ok, Err}
 use Rattle.std.specs.Float.{nan}
 use Rattle.std.specs.Float.Ieee.Scale.{finite}
-use Rattle.morton.specs.declared.CentreAnswer.TheVariants as centre
+use Rattle.refusals.specs.Refusals.{number}
+use Rattle.refusals.specs.declared.Refusal.{Refusal}
+use Rattle.refusals.specs.declared.Refusal.TheVariants.{NotFitting, NotFinite, LeavesFull, ListFull}
+use Rattle.slabs.specs.declared.Reach.{Reach}
 use Rattle.morton.specs.declared.Vec3.{Vec3}
 use Rattle.morton.specs.Answers.{CentreSays}
 use Rattle.morton.specs.Exact.{Exactly}
@@ -23,29 +26,20 @@ use Rattle.geometry.specs.Grid.{sum, lies_in, holders, volumes}
 use Rattle.geometry.specs.Listing.{Listed}
 use Rattle.build.specs.declared.Request.{Request}
 use Rattle.build.specs.declared.State.{State}
-use Rattle.build.specs.declared.Answer.TheVariants.{Refused}
 use Rattle.build.specs.Build.{Tables, finest, node_room, lengths_of, centre_of, half_of, distance_of}
 use Rattle.build.proofs.Asking as asking
-use Rattle.vertices.specs.declared.ListAnswer.{ListAnswer}
-use Rattle.vertices.specs.declared.ListAnswer.TheVariants as list
 use Rattle.vertices.specs.Listing.{Lists, Room, ListSays, TrustingSays as ListTrustingSays}
 use Rattle.vertices.specs.Walk.{visited, spots_of, most_of, vertices_of, levels_of}
 use Rattle.vertices.specs.Cells.{places_of, places_at, Cells, cells_of, CellsSays}
 use Rattle.vertices.proofs.Linear as linear
 use Rattle.vertices.proofs.One as vertices
 use Rattle.dual.specs.declared.Dual.{Dual}
-use Rattle.dual.specs.declared.Tried.{Tried}
-use Rattle.dual.specs.declared.Tried.TheVariants as tried
 use Rattle.dual.specs.Dual.{NoCell, DualCell, DualSays, key_in, place_in, TrustingSays as DualTrustingSays}
 use Rattle.dual.proofs.Filling as filling
 use Rattle.dual.proofs.One as dual
-use Rattle.slabs.specs.declared.SlabsAnswer.{SlabsAnswer}
-use Rattle.slabs.specs.declared.SlabsAnswer.TheVariants as slabs
-use Rattle.slabs.specs.Heights.{slab_of, SlabsSays, TrustingSays as SlabsTrustingSays}
+use Rattle.slabs.specs.Heights.{reach, slab_of, SlabsSays, TrustingSays as SlabsTrustingSays}
 use Rattle.slabs.proofs.Spans as spans
 use Rattle.slabs.proofs.One as one-slabs
-use Rattle.lifetimes.specs.declared.LifetimesAnswer.{LifetimesAnswer}
-use Rattle.lifetimes.specs.declared.LifetimesAnswer.TheVariants as lifetimes
 use Rattle.lifetimes.specs.Needed.{CellOf, Reports, Room as ReportRoom, LifetimesSays}
 use Rattle.lifetimes.specs.Trusted.{TrustingSays as LifetimesTrustingSays}
 use Rattle.lifetimes.proofs.One as one-lifetimes
@@ -89,14 +83,14 @@ module _ (bound : ℕ) (lent : Tables) (given : List Float) (s : State) (t : Tab
   volumes_add_up = whole.covers.full
 
   -- an honest host never hears 10;
-  pub never_10 : (d : Float) → (distance_of s d t).answer ≡ Refused 10 → ⊥
+  pub never_10 : (d : Float) → (distance_of s d t).answer ≡ Err NotFitting → ⊥
   never_10 = whole.never_10
 
   -- while a cell is asked for, an infinite or NaN distance is refused with 16, and no finite one is; so every distance of a build is finite;
-  pub broken_refused : (s.asked ≡ 0 → ⊥) → (d : Float) → finite d ≡ false → (distance_of s d t).answer ≡ Refused 16
+  pub broken_refused : (s.asked ≡ 0 → ⊥) → (d : Float) → finite d ≡ false → (distance_of s d t).answer ≡ Err NotFinite
   broken_refused = whole.broken_refused
 
-  pub only_broken : (d : Float) → (distance_of s d t).answer ≡ Refused 16 → finite d ≡ false
+  pub only_broken : (d : Float) → (distance_of s d t).answer ≡ Err NotFinite → finite d ≡ false
   only_broken = whole.only_broken
 
   pub finite_given : AllFinite given
@@ -214,13 +208,13 @@ brought_back_anywhere = hosts.brought_back_anywhere
 -- With room for n nodes a finite distance that is asked for is refused only where the tree has more than n,
 pub enough_room : (n bound : ℕ) (lent : Tables) (given : List Float) (s : State) (t : Tables)
     → RoomFor n lent → Run bound lent given s t → (s.asked ≡ 0 → ⊥)
-    → (d : Float) → finite d ≡ true → (k : ℕ) → (distance_of s d t).answer ≡ Refused k → n < nodes_with s d
+    → (d : Float) → finite d ≡ true → (k : Refusal) → (distance_of s d t).answer ≡ Err k → n < nodes_with s d
 enough_room = rooms.enough_room
 
 -- by 7 never where n is the node room,
 pub enough_leaves : (bound : ℕ) (lent : Tables) (given : List Float) (s : State) (t : Tables)
     → RoomFor (node_room (lengths_of lent)) lent → Run bound lent given s t
-    → (d : Float) → (distance_of s d t).answer ≡ Refused 7 → ⊥
+    → (d : Float) → (distance_of s d t).answer ≡ Err LeavesFull → ⊥
 enough_leaves = rooms.enough_leaves
 
 -- and distances that finish a build on some tables finish it, with the same tree, on all tables with room for its nodes.
@@ -251,7 +245,7 @@ module _ (bound : ℕ) (lent : Tables) (given : List Float) (s : State) (t : Tab
   pub most_of_finished_builds : (vertices levels : List ℕ) → Listed (leaf_keys s t) vertices levels → length vertices ≤ 27 + 19 * (s.nodes - s.leaves - 9)
   most_of_finished_builds = few.at_most
 
-  pub enough_for_list : (start k : ℕ) (was left : Lists) → Room start (27 + 19 * (s.nodes - s.leaves - 9)) was → ListSays (tree_after s t) start was left (list.Refused k) → ⊥
+  pub enough_for_list : (start : ℕ) (k : Refusal) (was left : Lists) → Room start (27 + 19 * (s.nodes - s.leaves - 9)) was → ListSays (tree_after s t) start was left (Err k) → ⊥
   enough_for_list = few.enough
 
 -- ---- a finished tree is read right
@@ -266,8 +260,8 @@ module _ (t : Tree) (sound : Sound t) (D : ℕ) (deep : D ≤ deepest) (fine : (
 
   -- A list is refused for want of room only, and answered with the number of its vertices.
   pub listed_by_room : (vertices levels : List ℕ) × ListsCorners t.leaves vertices levels
-      × ((start : ℕ) (was left : Lists) (a : ListAnswer) → ListSays t start was left a → Room start (length vertices) was → a ≡ list.Count (length vertices))
-      × ((start : ℕ) (was left : Lists) (a : ListAnswer) → ListSays t start was left a → (Room start (length vertices) was → ⊥) → a ≡ list.Refused 12)
+      × ((start : ℕ) (was left : Lists) (a : Result ℕ Refusal) → ListSays t start was left a → Room start (length vertices) was → a ≡ Ok (length vertices))
+      × ((start : ℕ) (was left : Lists) (a : Result ℕ Refusal) → ListSays t start was left a → (Room start (length vertices) was → ⊥) → a ≡ Err ListFull)
   listed_by_room = (right.answered.vertices, right.answered.levels, right.answered.corners, right.answered.room, right.answered.no_room)
 
   -- The dual cell of any inner vertex is found, unless the tree is the root alone.
@@ -275,7 +269,7 @@ module _ (t : Tree) (sound : Sound t) (D : ℕ) (deep : D ≤ deepest) (fine : (
       → (keys : List ℕ) × (distances : List Float) × (places : List ℕ) × (tried : ℕ) × DualCell t L v keys distances places tried
   dual_found = right.found
 
-  module _ (start n : ℕ) (was left : Lists) (says : ListSays t start was left (list.Count n)) where
+  module _ (start n : ℕ) (was left : Lists) (says : ListSays t start was left (Ok n)) where
     -- Every leaf corner strictly inside the cube is listed once,
     pub listed_once : (v L : ℕ) → LeafCorner t.leaves v L → Once v (part start n left.vertices)
     listed_once = (right.list start n was left says).once
@@ -294,7 +288,7 @@ module _ (t : Tree) (sound : Sound t) (D : ℕ) (deep : D ≤ deepest) (fine : (
       found : LeafCell D t (get_or left.vertices (start + j) 0) r
       found = right.dual start n was left says j listed r cell
 
-      pub dual_answered : (k : ℕ) → r.tried ≡ tried.Refused k → ⊥
+      pub dual_answered : (k : Refusal) → r.tried ≡ Err k → ⊥
       dual_answered = found.answered
 
       module _ (i : ℕ) (h : i < 8) where
@@ -319,21 +313,21 @@ module _ (t : Tree) (sound : Sound t) (D : ℕ) (deep : D ≤ deepest) (fine : (
 -- ---- the slabs that a dual cell reaches
 
 -- They are answered only where the tree is sound, it is an inner vertex at that level and the tree isn't the root alone, and the exponent is at most 15;
-pub slabs_answered : (t : Tree) (L v s first last : ℕ) → SlabsSays t L v s (slabs.Reach first last) → Sound t × (NoCell t.keys L v → ⊥) × (s ≤ 15)
+pub slabs_answered : (t : Tree) (L v s first last : ℕ) → SlabsSays t L v s (reach first last) → Sound t × (NoCell t.keys L v → ⊥) × (s ≤ 15)
 slabs_answered t = (slabs_of_trees t).answered
 
 -- else they are refused by the first of these that fails.
-pub slabs_refused : (t : Tree) (L v s k : ℕ) → SlabsSays t L v s (slabs.Refused k)
-    → ((Sound t → ⊥) × (k ≡ 11))
-    ⊎ ((Sound t × NoCell t.keys L v × (k ≡ 4))
-    ⊎ (Sound t × (NoCell t.keys L v → ⊥) × (15 < s) × (k ≡ 5)))
+pub slabs_refused : (t : Tree) (L v s : ℕ) (k : Refusal) → SlabsSays t L v s (Err k)
+    → ((Sound t → ⊥) × (number k ≡ 11))
+    ⊎ ((Sound t × NoCell t.keys L v × (number k ≡ 4))
+    ⊎ (Sound t × (NoCell t.keys L v → ⊥) × (15 < s) × (number k ≡ 5)))
 slabs_refused t = (slabs_of_trees t).refused
 
 -- The first is no higher than the last, and of 2^s slabs there is none above.
-pub reach_order : (t : Tree) (L v s first last : ℕ) → SlabsSays t L v s (slabs.Reach first last) → (first ≤ last) × (last < 2 ^ s)
+pub reach_order : (t : Tree) (L v s first last : ℕ) → SlabsSays t L v s (reach first last) → (first ≤ last) × (last < 2 ^ s)
 reach_order t = (slabs_of_trees t).order
 
-module _ (t : Tree) (L v s first last : ℕ) (word : v < 2 ^ 64) (says : SlabsSays t L v s (slabs.Reach first last))
+module _ (t : Tree) (L v s first last : ℕ) (word : v < 2 ^ 64) (says : SlabsSays t L v s (reach first last))
     (r : Dual) (cell : DualSays t L v r.keys r.distances r.places r.tried) where
   -- Each node of the cell has its centre in one of them,
   pub reach_each : (i : ℕ) → i < 8 → (first ≤ slab_of s (get_or r.keys i 0)) × (slab_of s (get_or r.keys i 0) ≤ last)
@@ -344,7 +338,7 @@ module _ (t : Tree) (L v s first last : ℕ) (word : v < 2 ^ 64) (says : SlabsSa
   two_slabs = (slabs_of_trees t).two {c = r} (record { word = word; slabs = says; cell = cell })
 
 -- The slab of a node has the centre that `centre` answers.
-pub centre_height : (k : ℕ) (p : Vec3) → CentreSays k (centre.Is p) → Exactly p.z (2 * coord (level k) k 2 + 1) (2 ^ (level k + 1))
+pub centre_height : (k : ℕ) (p : Vec3) → CentreSays k (Ok p) → Exactly p.z (2 * coord (level k) k 2 + 1) (2 ^ (level k + 1))
 centre_height = spans.centre_height
 
 pub in_its_slab : (s k : ℕ)
@@ -352,9 +346,9 @@ pub in_its_slab : (s k : ℕ)
 in_its_slab = spans.in_its_slab
 
 -- The slabs of a listed vertex's cell aren't refused, and the vertex itself lies in one of them.
-pub vertex_between : (t : Tree) (start n : ℕ) (was left : Lists) → ListSays t start was left (list.Count n)
+pub vertex_between : (t : Tree) (start n : ℕ) (was left : Lists) → ListSays t start was left (Ok n)
     → (j : ℕ) → j < n → (s : ℕ) → s ≤ 15
-    → (r : SlabsAnswer) → SlabsSays t (get_or left.levels (start + j) 0) (get_or left.vertices (start + j) 0) s r
+    → (r : Result Reach Refusal) → SlabsSays t (get_or left.levels (start + j) 0) (get_or left.vertices (start + j) 0) s r
     → HasVertex s (get_or left.vertices (start + j) 0) r
 vertex_between t = (slabs_of_trees t).vertex
 
@@ -362,22 +356,22 @@ vertex_between t = (slabs_of_trees t).vertex
 
 -- There is no report where the tree isn't sound, else where the exponent is above 15, else where a table has fewer places than leaves, or than slabs; and
 -- then the tables stay.
-pub lifetimes_refused : (t : Tree) (s : ℕ) (was left : Reports) (k : ℕ) → LifetimesSays t s was left (lifetimes.Refused k)
+pub lifetimes_refused : (t : Tree) (s : ℕ) (was left : Reports) (k : Refusal) → LifetimesSays t s was left (Err k)
     → (left ≡ was)
-    × (((Sound t → ⊥) × (k ≡ 11))
-    ⊎ ((Sound t × (15 < s) × (k ≡ 5))
-    ⊎ (Sound t × (s ≤ 15) × (ReportRoom (length t.leaves) s was → ⊥) × (k ≡ 17))))
+    × (((Sound t → ⊥) × (number k ≡ 11))
+    ⊎ ((Sound t × (15 < s) × (number k ≡ 5))
+    ⊎ (Sound t × (s ≤ 15) × (ReportRoom (length t.leaves) s was → ⊥) × (number k ≡ 17))))
 lifetimes_refused = refused
 
-module _ (t : Tree) (s : ℕ) (was left : Reports) (greatest : ℕ) (says : LifetimesSays t s was left (lifetimes.Greatest greatest)) where
+module _ (t : Tree) (s : ℕ) (was left : Reports) (greatest : ℕ) (says : LifetimesSays t s was left (Ok greatest)) where
   -- Of a tree that isn't the root alone every leaf is needed at some slab.
   pub every_leaf_needed : 1 < length t.keys → (i : ℕ) → i < length t.leaves
       → (get_or left.first i 0 ≤ get_or left.last i 0) × (get_or left.last i 0 < 2 ^ s)
   every_leaf_needed = (lifetimes_of_trees t s was left greatest says).every
 
   -- Nothing is freed too early: every node that a listed cell reads at a slab from the cell's first to its last is a leaf that is needed there.
-  pub freed_in_time : (start n : ℕ) (before after : Lists) → ListSays t start before after (list.Count n) → (j : ℕ) → j < n
-      → (first last : ℕ) → SlabsSays t (get_or after.levels (start + j) 0) (get_or after.vertices (start + j) 0) s (slabs.Reach first last)
+  pub freed_in_time : (start n : ℕ) (before after : Lists) → ListSays t start before after (Ok n) → (j : ℕ) → j < n
+      → (first last : ℕ) → SlabsSays t (get_or after.levels (start + j) 0) (get_or after.vertices (start + j) 0) s (reach first last)
       → (c : Dual) → DualSays t (get_or after.levels (start + j) 0) (get_or after.vertices (start + j) 0) c.keys c.distances c.places c.tried
       → (slab : ℕ) → first ≤ slab → slab ≤ last → (o : ℕ) → o < 8 → LeafKept t left slab (get_or c.keys o 0)
   freed_in_time = (lifetimes_of_trees t s was left greatest says).in_time
@@ -405,7 +399,7 @@ module _ (t : Tree) (s : ℕ) (was left : Reports) (greatest : ℕ) (says : Life
 -- ---- what is found
 
 -- The key at the place that a lookup answers is the key found, and the distance there the distance found.
-module _ (t : Tree) (asked key : ℕ) (distance : Float) (place tried : ℕ) (says : LookupSays t asked (Found key distance place tried)) where
+module _ (t : Tree) (asked key : ℕ) (distance : Float) (place tried : ℕ) (says : LookupSays t asked (Ok (Found key distance place tried))) where
   pub found_place : StandsAt t.keys place key
   found_place = says.2.present
 
@@ -413,23 +407,23 @@ module _ (t : Tree) (asked key : ℕ) (distance : Float) (place tried : ℕ) (sa
   found_distance = says.2.its_distance
 
 -- No lookup and no dual cell of a checked tree hands on a distance that isn't finite.
-pub found_finite : (t : Tree) (asked k p n : ℕ) (d : Float) → LookupSays t asked (Found k d p n) → finite d ≡ true
+pub found_finite : (t : Tree) (asked k p n : ℕ) (d : Float) → LookupSays t asked (Ok (Found k d p n)) → finite d ≡ true
 found_finite = tree.found_finite
 
-pub dual_finite : (t : Tree) (L v n : ℕ) (keys : List ℕ) (distances : List Float) (places : List ℕ) → DualSays t L v keys distances places (tried.Keys n)
+pub dual_finite : (t : Tree) (L v n : ℕ) (keys : List ℕ) (distances : List Float) (places : List ℕ) → DualSays t L v keys distances places (Ok n)
     → (i : ℕ) → i < 8 → finite (get_or distances i nan) ≡ true
 dual_finite = dual.dual_finite
 
 -- At most 21 keys are tried.
-pub tried_most : (t : Tree) (asked : ℕ) (r : Lookup) → LookupSays t asked r → tried_in r ≤ 21
+pub tried_most : (t : Tree) (asked : ℕ) (r : Result Lookup Refusal) → LookupSays t asked r → tried_in r ≤ 21
 tried_most = finding.tried_most
 
 -- ---- of a sound tree, those that trust it answer as those that check it
 
-pub trusting_is_look_up : (t : Tree) → Sound t → (asked : ℕ) (a : Lookup) → LookupSays t asked a → a ≡ trusting_of (nodes t) t.distances asked
+pub trusting_is_look_up : (t : Tree) → Sound t → (asked : ℕ) (a : Result Lookup Refusal) → LookupSays t asked a → a ≡ trusting_of (nodes t) t.distances asked
 trusting_is_look_up = tree.trusting_is_look_up
 
-pub list_same : (t : Tree) (start : ℕ) (was : Lists) → Sound t → (o p : Lists × ListAnswer)
+pub list_same : (t : Tree) (start : ℕ) (was : Lists) → Sound t → (o p : Lists × Result ℕ Refusal)
     → ListTrustingSays (nodes t) start was o.0 o.1 → ListSays t start was p.0 p.1 → o ≡ p
 list_same = vertices.list_same
 
@@ -437,19 +431,19 @@ pub trusting_is_dual_cell : (t : Tree) → Sound t → (L v : ℕ) → v < 2 ^ 6
     → DualSays t L v r.keys r.distances r.places r.tried → DualTrustingSays (nodes t) t.distances L v s.keys s.distances s.places s.tried → r ≡ s
 trusting_is_dual_cell = dual.trusting_is_dual_cell
 
-pub trusting_is_slabs : (t : Tree) → Sound t → (L v s : ℕ) → v < 2 ^ 64 → (q r : SlabsAnswer)
+pub trusting_is_slabs : (t : Tree) → Sound t → (L v s : ℕ) → v < 2 ^ 64 → (q r : Result Reach Refusal)
     → SlabsSays t L v s q → SlabsTrustingSays (nodes t) L v s r → q ≡ r
 trusting_is_slabs = one-slabs.trusting_is_slabs
 
 -- A first child's place has 16 bits.
 pub trusting_is_lifetimes : (t : Tree) (s : ℕ) (was : Reports) → Sound t → ((i : ℕ) → i < length t.firsts → get_or t.firsts i 0 < 2 ^ 16)
-    → (o p : Reports × LifetimesAnswer) → LifetimesSays t s was o.0 o.1 → LifetimesTrustingSays (nodes t) s was p.0 p.1 → o ≡ p
+    → (o p : Reports × Result ℕ Refusal) → LifetimesSays t s was o.0 o.1 → LifetimesTrustingSays (nodes t) s was p.0 p.1 → o ≡ p
 trusting_is_lifetimes = one-lifetimes.trusting_is_lifetimes
 
 -- The places that are handed out with a vertex are those of its dual cell: on any tables `dual_cell_trusting` accepts it, and hands back the same eight.
 pub cells_right : (ks : Nodes) (from : ℕ) (was left : Cells) (n : ℕ) → CellsSays ks from was left n → (j : ℕ) → j < n → (ds : List Float)
     → (keys : List ℕ) × (distances : List Float) × (m : ℕ)
-    × DualTrustingSays ks ds (get_or left.levels j 0) (get_or left.vertices j 0) keys distances (places_at j left.places) (tried.Keys m)
+    × DualTrustingSays ks ds (get_or left.levels j 0) (get_or left.vertices j 0) keys distances (places_at j left.places) (Ok m)
 cells_right = batches.of_each_call
 
 -- ---- first children
@@ -477,7 +471,7 @@ pub look_up_inside : (ks : Nodes) (ds : List Float) (k : ℕ)
 look_up_inside = filling.look_up_inside
 
 -- so it is with each entry of a dual cell;
-pub dual_inside : (ks : Nodes) (ds : List Float) (L v : ℕ) (keys : List ℕ) (distances : List Float) (places : List ℕ) (a : Tried)
+pub dual_inside : (ks : Nodes) (ds : List Float) (L v : ℕ) (keys : List ℕ) (distances : List Float) (places : List ℕ) (a : Result ℕ Refusal)
     → DualTrustingSays ks ds L v keys distances places a
     → (i : ℕ) → i < 8 → ((get_or keys i 0 ≡ 0) × (get_or places i 0 ≡ 0)) ⊎ ((0 < get_or places i 0) × (get_or places i 0 < length ks.keys))
 dual_inside = filling.dual_inside
