@@ -1,37 +1,18 @@
 #![tactic(auto)]
 // Replays the sample's lines of key operations and of builds, and counts the lines that agree. The sample is the oracle's answers,
 // written by tools/sample.
-use build::{Answer, Lengths, Request, State};
-use morton::{CentreAnswer, Key, KeyAnswer, SizeAnswer, Vec3};
+use build::{Answer, Lengths, Request, State, Tables};
+use morton::{Key, Vec3};
+use refusals::Refusal;
 use sample::{Line, Op};
 use std::io;
 
-fn same_point(p: Vec3, l: Line) -> bool {
-    l.status == 0
-        && sample::is_float(p.x, l.x)
-        && sample::is_float(p.y, l.y)
-        && sample::is_float(p.z, l.z)
+fn same_key(answer: Result<Key, Refusal>, l: Line) -> bool {
+    sample::same(answer, l, |k| sample::first_is(l, k.code))
 }
 
-fn same_key(answer: KeyAnswer, l: Line) -> bool {
-    match answer {
-        KeyAnswer::Is(k) => sample::first_is(l, k.code),
-        KeyAnswer::Refused(number) => number == l.status,
-    }
-}
-
-fn same_size(answer: SizeAnswer, l: Line) -> bool {
-    match answer {
-        SizeAnswer::Is(h) => l.status == 0 && sample::is_float(h, l.x),
-        SizeAnswer::Refused(number) => number == l.status,
-    }
-}
-
-fn same_centre(answer: CentreAnswer, l: Line) -> bool {
-    match answer {
-        CentreAnswer::Is(p) => same_point(p, l),
-        CentreAnswer::Refused(number) => number == l.status,
-    }
+fn is_point(p: Vec3, l: Line) -> bool {
+    sample::is_float(p.x, l.x) && sample::is_float(p.y, l.y) && sample::is_float(p.z, l.z)
 }
 
 // A line of keys.
@@ -44,8 +25,8 @@ fn key_agrees(op: Op, l: Line) -> bool {
         Op::Child => same_key(k.child(l.low_b), l),
         Op::Add => k.add(Key { code: l.b }).code == l.x,
         Op::Sub => k.sub(Key { code: l.b }).code == l.x,
-        Op::HalfSize => same_size(k.half_size(), l),
-        Op::Centre => same_centre(k.centre(), l),
+        Op::HalfSize => sample::same(k.half_size(), l, |h| sample::is_float(h, l.x)),
+        Op::Centre => sample::same(k.centre(), l, |p| is_point(p, l)),
         Op::Vertex => same_key(k.vertex(l.low_b, l.low_c), l),
         Op::IsInner => u64::from(k.is_inner(l.low_b)) == l.x,
         Op::Side => same_key(k.side(l.low_b, l.low_c), l),
@@ -100,18 +81,14 @@ impl Build {
     }
 
     // A build that is finished asks for the key 0; one that is refused stays as it was.
-    fn goes_on(&mut self, answer: Answer, l: Line) -> bool {
-        match answer {
-            Answer::Ask(r, s) => {
-                self.state = s;
-                same_request(r, l)
-            }
-            Answer::Finished(s) => {
-                self.state = s;
-                sample::first_is(l, 0)
-            }
-            Answer::Refused(number) => number == l.status,
+    fn goes_on(&mut self, answer: Result<Answer, Refusal>, l: Line) -> bool {
+        if let Ok(Answer::Ask(_, s) | Answer::Finished(s)) = answer {
+            self.state = s;
         }
+        sample::same(answer, l, |a| match a {
+            Answer::Ask(r, _) => same_request(r, l),
+            Answer::Finished(_) => sample::first_is(l, 0),
+        })
     }
 
     // Begins over tables that are all 0, the queue as long as A says above its bound and the others as B says.
@@ -121,20 +98,15 @@ impl Build {
         self.firsts = [0; 1024];
         self.leaves = [0; 1024];
         self.queue = [0; 1024];
-        let a = sample::length_at(l.b, 0, self.keys.len());
-        let b = sample::length_at(l.b, 1, self.distances.len());
-        let c = sample::length_at(l.b, 2, self.firsts.len());
-        let d = sample::length_at(l.b, 3, self.leaves.len());
-        let e = sample::length_at(l.a, 2, self.queue.len());
-        let answer = build::start(
-            (l.a % 0x1_0000_0000) as u32,
-            &self.keys[..a],
-            &self.distances[..b],
-            &self.firsts[..c],
-            &self.leaves[..d],
-            &self.queue[..e],
-        );
-        self.goes_on(answer, l)
+        let lengths = Lengths {
+            keys: sample::length_at(l.b, 0, 1024),
+            distances: sample::length_at(l.b, 1, 1024),
+            firsts: sample::length_at(l.b, 2, 1024),
+            leaves: sample::length_at(l.b, 3, 1024),
+            queue: sample::length_at(l.a, 2, 1024),
+        };
+        let bound = (l.a % 0x1_0000_0000) as u32;
+        self.goes_on(build::start(bound, lengths), l)
     }
 
     fn distance(&mut self, l: Line) -> bool {
@@ -157,15 +129,14 @@ impl Build {
         let c = lengths.firsts.min(firsts.len());
         let d = lengths.leaves.min(leaves.len());
         let e = lengths.queue.min(queue.len());
-        let answer = build::distance(
-            *state,
-            &mut keys[..a],
-            &mut distances[..b],
-            &mut firsts[..c],
-            &mut leaves[..d],
-            &mut queue[..e],
-            sample::float(l.a),
-        );
+        let mut tables = Tables {
+            keys: &mut keys[..a],
+            distances: &mut distances[..b],
+            firsts: &mut firsts[..c],
+            leaves: &mut leaves[..d],
+            queue: &mut queue[..e],
+        };
+        let answer = build::distance(*state, &mut tables, sample::float(l.a));
         self.goes_on(answer, l)
     }
 

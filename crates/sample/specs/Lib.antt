@@ -4,3 +4,4 @@ pub mod Word
 pub mod Count
 pub mod Op
 pub mod Reading
+pub mod Answers

@@ -9,7 +9,9 @@ ghost use Rattle.sample.specs.Word.{float_of, is_float, length_of};
 ghost use Rattle.sample.specs.Op.{number_of};
 ghost use Rattle.sample.specs.Count.{differing_of, counted_of};
 ghost use Rattle.sample.specs.Reading.{IsNext, Replays};
+ghost use Rattle.sample.specs.Answers.{SaysSame};
 
+use refusals::Refusal;
 use std::io;
 use std::io::{ErrorKind, Read, Write};
 
@@ -200,6 +202,21 @@ pub fn first_is(l: Line, n: u64) -> bool
     ensures { result ≡ first_is l n }
 {
     l.status == 0 && n == l.x
+}
+
+// Whether an answer is what its line says: the refusal of that number, or else a value of which `is` holds.
+pub fn same<T: Copy, F: FnOnce(T) -> bool + Drop>(
+    answer: Result<T, Refusal>,
+    l: Line,
+    is: F,
+) -> bool
+    requires { F.IsAlwaysCallable is }
+    ensures { SaysSame (F.post is) l result answer }
+{
+    match answer {
+        Ok(value) => l.status == 0 && is(value),
+        Err(refusal) => refusal.number() == l.status,
+    }
 }
 
 // One of the four lengths that are packed in a word, the lowest being number 0, and at most so many.
