@@ -7,6 +7,7 @@ use lib.Ieee.{Float}
 use Rattle.std.specs.Prelude.{Result, Ok, Err}
 use Rattle.refusals.specs.declared.Refusal.{Refusal}
 use Rattle.refusals.specs.Refusals.{number, Hands}
+use Rattle.refusals.proofs.One.{hand_one}
 use Rattle.morton.specs.declared.Key.{Key}
 use Rattle.morton.specs.declared.Vec3.{Vec3}
 use Rattle.morton.specs.Answers.{child_of, vertex_answer, side_answer, HalfSizeSays, CentreSays}
@@ -14,7 +15,7 @@ use Rattle.morton.specs.Field.{add, sub}
 use Rattle.morton.specs.Level.{deepest, level, is_cell, parent_of}
 use Rattle.morton.specs.Split.{splits}
 use Rattle.morton.specs.Vertex.{is_inner}
-use Rattle.morton.proofs.One.{OnlyOne, equal, both, hands_one, handed_on, half_size_one as size-answer-one, centre_one as centre-answer-one}
+use Rattle.morton.proofs.One.{OnlyOne, equal, both, handed_on, half_size_one as size-answer-one, centre_one as centre-answer-one}
 use Rattle.mittenhelm_keys.specs.Keys.{HandsKey, HandsSize, Three, three, HandsThree, HandsCentre}
 
 key_one : (a : Result Key Refusal) (was : ℕ) → OnlyOne (λ (r : ℕ × ℕ). HandsKey a was r.0 r.1)
@@ -44,7 +45,7 @@ pub child_one : (k w was : ℕ) → OnlyOne (λ (r : ℕ × ℕ). HandsKey (chil
 child_one k w was = key_one (child_of k w) was
 
 pub half_size_one : (k : ℕ) (was : Float) → OnlyOne (λ (r : ℕ × Float). HandsSize k was r.0 r.1)
-half_size_one k was = handed_on (HalfSizeSays k) (λ a r. Hands a was r.0 r.1) (size-answer-one k) (λ a. hands_one a was)
+half_size_one k was = handed_on (HalfSizeSays k) (λ a r. Hands a was r.0 r.1) (size-answer-one k) (λ a. hand_one a was)
 
 pub centre_one : (k : ℕ) (was : Three) → OnlyOne (λ (r : ℕ × Three). HandsCentre k was r.0 r.1)
 centre_one k was = handed_on (CentreSays k) (λ a r. HandsThree a was r.0 r.1) (centre-answer-one k) (λ a. three_one a was)

@@ -6,7 +6,8 @@ use lib.Ieee.{of_bits, binary32}
 use Rattle.morton.proofs.One.{OnlyOne, both, handed_on}
 use Rattle.std.specs.Prelude.{Result, Ok, Err}
 use Rattle.refusals.specs.declared.Refusal.{Refusal}
-use Rattle.refusals.specs.Refusals.{number}
+use Rattle.refusals.specs.Refusals.{number, Hands}
+use Rattle.refusals.proofs.One.{hand_one}
 use Rattle.tree.specs.declared.Lookup.{Lookup}
 use Rattle.tree.specs.declared.Lookup.TheVariants as lookup
 use Rattle.tree.specs.Tree.{Tree, Sound, Decides}
@@ -17,7 +18,7 @@ use Rattle.vertices.proofs.One.{list_one as list-answer-one}
 use Rattle.dual.specs.declared.Dual.{Dual}
 use Rattle.dual.specs.Dual.{DualSays}
 use Rattle.dual.proofs.One.{dual_cell_one as dual-answer-one}
-use Rattle.mittenhelm_reading.specs.Reading.{Found, found_at, HandsFound, HandsLookup, Eight, eight_at, HandsEight, HandsDual, HandsCount, HandsList}
+use Rattle.mittenhelm_reading.specs.Reading.{Found, found_at, HandsFound, HandsLookup, Eight, eight_at, HandsEight, HandsDual, HandsList}
 
 pub sound_one : (t : Tree) → OnlyOne (λ (r : Bool). Decides r (Sound t))
 sound_one t = sound-answer-one t
@@ -42,17 +43,13 @@ dual_cell_one t L v was =
     handed_on (λ (a : Dual). DualSays t L v a.keys a.distances a.places a.tried) (λ a r. HandsEight a.keys a.distances a.places a.tried was r.0 r.1)
     (dual-answer-one t L v) (λ a. hand_eight_one a was)
 
-pub hand_count_one : (a : Result ℕ Refusal) (was : ℕ) → OnlyOne (λ (r : ℕ × ℕ). HandsCount a was r.0 r.1)
-hand_count_one (Ok n) was = both 0 n
-hand_count_one (Err e) was = both (number e) was
-
 -- the count, and both tables, where there is one answer with its tables
 pub listed_on : (says : Lists → Result ℕ Refusal → Type 0) → OnlyOne (λ (o : Lists × Result ℕ Refusal). says o.0 o.1) → (was : ℕ)
-    → OnlyOne (λ (r : Lists × (ℕ × ℕ)). (a : Result ℕ Refusal) × says r.0 a × HandsCount a was r.1.0 r.1.1)
+    → OnlyOne (λ (r : Lists × (ℕ × ℕ)). (a : Result ℕ Refusal) × says r.0 a × Hands a was r.1.0 r.1.1)
 listed_on says answer was r s p q =
     let same = answer (r.0, p.0) (s.0, q.0) p.1 q.1 in
     let n : r.1 ≡ s.1 =
-    hand_count_one q.0 was r.1 s.1 (subst (λ (a : Result ℕ Refusal). HandsCount a was r.1.0 r.1.1) (ap (λ (x : Lists × Result ℕ Refusal). x.1) same) p.2) q.2 in
+    hand_one q.0 was r.1 s.1 (subst (λ (a : Result ℕ Refusal). Hands a was r.1.0 r.1.1) (ap (λ (x : Lists × Result ℕ Refusal). x.1) same) p.2) q.2 in
     λ i. (ap (λ (x : Lists × Result ℕ Refusal). x.0) same i, n i)
 
 pub list_one : (t : Tree) (start was : ℕ) (before : Lists)

@@ -51,9 +51,6 @@ abbrev pub HandsDual : Tree → ℕ → ℕ → Eight → ℕ → Eight → Type
 HandsDual t L v was r out =
     (a : Dual) × DualSays t L v a.keys a.distances a.places a.tried × HandsEight a.keys a.distances a.places a.tried was r out
 
-abbrev pub HandsCount : Result ℕ Refusal → ℕ → ℕ → ℕ → Type 0
-HandsCount a was r out = Hands a was r out
-
 -- The answer, with the tables that it leaves, is the one that `list` promises.
 abbrev pub HandsList : Tree → ℕ → Lists → Lists → ℕ → ℕ → ℕ → Type 0
-HandsList t start before after was r out = (a : Result ℕ Refusal) × ListSays t start before after a × HandsCount a was r out
+HandsList t start before after was r out = (a : Result ℕ Refusal) × ListSays t start before after a × Hands a was r out

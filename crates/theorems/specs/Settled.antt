@@ -2,6 +2,8 @@
 -- exported one that of the header.
 use Rattle.std.specs.Prelude.{ℕ, min, max, ◌≡◌, Bool, ◌&&◌, List, leb, Float, get_or, Result}
 use Rattle.refusals.specs.declared.Refusal.{Refusal}
+use Rattle.refusals.specs.Refusals.{number, Hands}
+use Rattle.refusals.proofs.One as refusals
 use Rattle.morton.specs.declared.Key.{Key}
 use Rattle.morton.specs.Answers.{child_of, vertex_answer, side_answer, HalfSizeSays, CentreSays, ExtentSays}
 use Rattle.morton.specs.Field.{coord, add, sub}
@@ -33,25 +35,32 @@ use Rattle.slabs.proofs.One as slabs
 use Rattle.lifetimes.specs.Needed.{Reports, LifetimesSays}
 use Rattle.lifetimes.specs.Trusted.{TrustingSays as LifetimesTrustingSays}
 use Rattle.lifetimes.proofs.One as lifetimes
-use Rattle.counting.specs.declared.Text.{Text}
-use Rattle.counting.specs.Printed.{line_of, Holds}
+use Rattle.counting.specs.Printed.{line_of}
 use Rattle.counting.proofs.One as counting
 use Rattle.mittenhelm_keys.specs.Keys.{HandsKey, HandsSize, Three, HandsCentre}
 use Rattle.mittenhelm_keys.proofs.One as keys
 use Rattle.mittenhelm_builds.specs.Words.{Reply, start_replies, Effect, distance_effect}
 use Rattle.mittenhelm_builds.proofs.One as builds
-use Rattle.mittenhelm_reading.specs.Reading.{Found, HandsFound, HandsLookup, Eight, HandsEight, HandsDual, HandsCount, HandsList}
+use Rattle.mittenhelm_reading.specs.Reading.{Found, HandsFound, HandsLookup, Eight, HandsEight, HandsDual, HandsList}
 use Rattle.mittenhelm_reading.proofs.One as reading
 use Rattle.mittenhelm_trusting.specs.Trusting.{HandsTrustedList, HandsTrustedDual}
 use Rattle.mittenhelm_trusting.proofs.One as trusting
 use Rattle.mittenhelm_slabs.specs.Spans.{Span, HandsSlabs, HandsTrustedSlabs}
 use Rattle.mittenhelm_slabs.proofs.One as spans
-use Rattle.mittenhelm_lifetimes.specs.Most.{HandsMost, HandsLifetimes, HandsTrustedLifetimes}
+use Rattle.mittenhelm_lifetimes.specs.Most.{HandsLifetimes, HandsTrustedLifetimes}
 use Rattle.mittenhelm_lifetimes.proofs.One as most
 
 -- Two answers that meet a promise are the same.
 abbrev pub OnlyOne : {A : Type 0} → (A → Type 0) → Type 0
 OnlyOne {A} promise = (r s : A) → promise r → promise s → r ≡ s
+
+-- ---- refusals
+
+pub number_one : (e : Refusal) → OnlyOne (λ (r : ℕ). r ≡ number e)
+number_one = refusals.number_one
+
+pub hand_one : {A : Type 0} (a : Result A Refusal) (was : A) → OnlyOne (λ (r : ℕ × A). Hands a was r.0 r.1)
+hand_one = refusals.hand_one
 
 -- ---- keys
 
@@ -171,7 +180,7 @@ lifetimes_trusting_one = lifetimes.lifetimes_trusting_one
 
 -- ---- the line that `counts` prints
 
-pub line_one : (input : List ℕ) → OnlyOne (λ (t : Text). Holds (line_of input) t.bytes t.length)
+pub line_one : (input : List ℕ) → OnlyOne (λ (line : List ℕ). line ≡ line_of input)
 line_one = counting.line_one
 
 -- ---- exported calls: the number that is returned, and what the out parameters hold then
@@ -264,8 +273,8 @@ hand_found_one = reading.hand_found_one
 pub hand_eight_one : (a : Dual) (was : Eight) → OnlyOne (λ (r : ℕ × Eight). HandsEight a.keys a.distances a.places a.tried was r.0 r.1)
 hand_eight_one = reading.hand_eight_one
 
-pub hand_count_one : (a : Result ℕ Refusal) (was : ℕ) → OnlyOne (λ (r : ℕ × ℕ). HandsCount a was r.0 r.1)
-hand_count_one = reading.hand_count_one
+pub hand_count_one : (a : Result ℕ Refusal) (was : ℕ) → OnlyOne (λ (r : ℕ × ℕ). Hands a was r.0 r.1)
+hand_count_one = refusals.hand_one
 
-pub hand_most_one : (a : Result ℕ Refusal) (was : ℕ) → OnlyOne (λ (r : ℕ × ℕ). HandsMost a was r.0 r.1)
-hand_most_one = most.hand_most_one
+pub hand_most_one : (a : Result ℕ Refusal) (was : ℕ) → OnlyOne (λ (r : ℕ × ℕ). Hands a was r.0 r.1)
+hand_most_one = refusals.hand_one

@@ -4,6 +4,7 @@ use Rattle.std.specs.Float.{nan}
 use Rattle.std.specs.Float.Ieee.Scale.{finite}
 use Rattle.refusals.specs.Refusals.{number}
 use Rattle.refusals.specs.declared.Refusal.{Refusal}
+use Rattle.refusals.proofs.Numbers as numbers
 use Rattle.refusals.specs.declared.Refusal.TheVariants.{NotFitting, NotFinite, LeavesFull, ListFull}
 use Rattle.slabs.specs.declared.Reach.{Reach}
 use Rattle.morton.specs.declared.Vec3.{Vec3}
@@ -67,6 +68,15 @@ use Rattle.counting.specs.Vertices.{vertex_count}
 use Rattle.counting.specs.Printed.{line_of}
 use Rattle.counting.proofs.Runs as runs
 use Rattle.counting.proofs.Distinct as distinct
+
+-- ---- refusals
+
+-- Each refusal has a number of its own, and none has 0, which says that a call accepted.
+pub number_apart : (j k : Refusal) → number j ≡ number k → j ≡ k
+number_apart = numbers.number_apart
+
+pub some_number : (k : Refusal) → number k ≡ 0 → ⊥
+some_number = numbers.some_number
 
 -- ---- a build is whole at every step
 
