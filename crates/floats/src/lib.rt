@@ -10,7 +10,7 @@ pub fn from_bits(bits: u32) -> f32
     ensures { result ≡ of_bits binary32 bits }
 {
     if 0x7f80_0000 < bits % 0x8000_0000 {
-        return 0.0 / 0.0;
+        return f32::NAN;
     }
     f32::from_bits(bits)
 }
@@ -19,15 +19,16 @@ pub fn from_bits(bits: u32) -> f32
 pub fn to_bits(d: f32) -> u32
     ensures { (result ≡ to_bits binary32 d) × (of_bits binary32 result ≡ d) }
 {
-    if d != d {
+    if d.is_nan() {
         return 0x7fc0_0000;
     }
     f32::to_bits(d)
 }
 
-// Whether a float is neither an infinity nor the NaN: each of these less itself is the NaN.
+// Whether a float is neither an infinity nor the NaN.
+#[tactic(auto, using(crate::proofs::Patterns::finite_is))]
 pub fn is_finite(d: f32) -> bool
     ensures { result ≡ finite d }
 {
-    d - d == 0.0
+    d.is_finite()
 }
