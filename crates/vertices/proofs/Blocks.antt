@@ -236,9 +236,6 @@ module _ (ks : Nodes) (l c : ℕ) (at : List ℕ) (mask low : ℕ) (h : Here ks 
   pub here_bound : c < 2 ^ 60
   here_bound = omega (arith, cell_lt l limit c h.cell h.shallow)
 
-  pub here_child : (q : ℕ) → q < 8 → Cell (l + 1) (8 * c + q)
-  here_child q hq = subst (λ (n : ℕ). Cell n (8 * c + q)) (sym (add-one l)) (child_cell l c q h.cell (omega arith))
-
   module _ (q : ℕ) (hq : q < 8) where
     module _ (o : ℕ) (ho : o < 8) where
       -- the parent's mark, by the block

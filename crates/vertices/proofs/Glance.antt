@@ -1,8 +1,7 @@
 -- What a child sees of its parent's block: the rules of the two constant tables, each tested once over the whole table. Assumes nothing.
-use Prim.Native.Nat.{ℕ, ◌+◌, ◌*◌, ◌-◌, ◌^◌, ◌≤◌, ◌<◌}
+use Prim.Native.Nat.{ℕ, ◌+◌, ◌*◌, ◌-◌, ◌^◌, ◌<◌}
 use mathlib.Core.Path.{◌≡◌, refl, sym, ◌∙◌, ap}
 use mathlib.Core.Bool.{Bool, true, not, ◌||◌, true≢false}
-use native.Mathlib.Omega.{arith}
 use lib.Bits.{bit_and, bit_xor}
 use lib.Dec.{eqb}
 use borrow.Author.Tests.{eqb-true}
@@ -14,13 +13,6 @@ use Rattle.vertices.proofs.Blocks.{all_is}
 -- a rule that holds at every q and o below 8
 each : (f : ℕ → ℕ → Bool) → all (λ q. all (f q) 8) 8 ≡ true → (q o : ℕ) → q < 8 → o < 8 → f q o ≡ true
 each f t q o hq ho = all_is (f q) 8 (all_is (λ q. all (f q) 8) 8 t q hq) o ho
-
--- the last of eight choices
-pub past_four : (q : ℕ) → (q ≡ 0 → ⊥) → (q ≡ 1 → ⊥) → (q ≡ 2 → ⊥) → (q ≡ 3 → ⊥) → 4 ≤ q
-past_four q a b c d = omega arith
-
-pub last_of_eight : (q : ℕ) → q < 8 → 4 ≤ q → (q ≡ 4 → ⊥) → (q ≡ 5 → ⊥) → (q ≡ 6 → ⊥) → q ≡ 7
-last_of_eight q h l a b c = omega arith
 
 -- ---- the entries' children
 

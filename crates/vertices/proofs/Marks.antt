@@ -19,7 +19,7 @@ use Rattle.tree.specs.Tree.{Decides}
 use Rattle.tree.proofs.Lists.{unless}
 use Rattle.tree.specs.Down.{Nodes, first_at, leads, steps}
 use Rattle.tree.proofs.Down.{leads_none}
-use Rattle.vertices.specs.Block.{marked, ChildMarks, BelowMarks, lowered_mark, LoweredMarks}
+use Rattle.vertices.specs.Block.{marked, ChildMarks, lowered_mark}
 use Rattle.geometry.proofs.Offsets.{and_bit}
 
 -- ---- one bit
@@ -98,9 +98,6 @@ pub record Filled (P : ℕ → Type 0) (n mask : ℕ) : Type 0 where
   pub marks : (i : ℕ) → i < n → Decides (marked mask i) (P i)
 
 module _ (P : ℕ → Type 0) where
-  pub filled_none : Filled P 0 0
-  filled_none = record { small = omega arith; marks = λ i h. absurd (omega arith) }
-
   at_end : (n mask : ℕ) → Decides (marked mask n) (P n) → ((i : ℕ) → i < n → Decides (marked mask i) (P i))
       → (i : ℕ) → i < n + 1 → Decides (marked mask i) (P i)
   at_end n mask last marks i h =
@@ -117,9 +114,6 @@ module _ (P : ℕ → Type 0) where
       here : marked (mask + 1 * 2 ^ n) n ≡ true
       here = let e : n ≡ n + 0 = omega arith in ap (marked (mask + 1 * 2 ^ n)) e ∙ marked_over mask 1 n f.small 0 ∙ marked_first
 
-  pub filled_fits : (n mask : ℕ) → n < 63 → Filled P n mask → mask + (1 * 2 ^ n) % 2 ^ 64 < 2 ^ 64
-  filled_fits n mask h f = omega (arith, shift_exact n 1 1 (omega arith) (omega arith), f.small, pow_mono {i = n} {j = 62} (omega arith))
-
   pub filled_no : (n mask : ℕ) → (P n → ⊥) → Filled P n mask → Filled P (n + 1) mask
   filled_no n mask p f =
       record {
@@ -127,19 +121,9 @@ module _ (P : ℕ → Type 0) where
         marks = at_end n mask (rw (marked_past mask n f.small) p) f.marks;
       }
 
-decides_is : (r b : Bool) → Decides r (b ≡ true) → r ≡ b
-decides_is true b d = sym d
-decides_is false true d = absurd (d refl)
-decides_is false false d = refl
-
 pub is_lowered : (below q o : ℕ) {r : Bool} → marked below (8 * bit_and o (7 - q) + bit_xor q o) ≡ r → lowered_mark below q o ≡ r
 unfolding lowered_mark
 is_lowered below q o e = e
-
-pub filled_lowered : (below q n r : ℕ) → n ≡ 8 → Filled (λ o. lowered_mark below q o ≡ true) n r → LoweredMarks below q r
-filled_lowered below q n r e f =
-    let g : Filled (λ o. lowered_mark below q o ≡ true) 8 r = subst (λ (m : ℕ). Filled (λ o. lowered_mark below q o ≡ true) m r) e f in
-    record { small = g.small; marks = λ o h. decides_is (marked r o) (lowered_mark below q o) (g.marks o h) }
 
 -- ---- the split children of a node
 
@@ -159,11 +143,6 @@ module _ (ks : Nodes) (first p : ℕ) where
   told_none z =
       record { small = omega arith; marks = λ w h. marked_zero w ∙ sym (leads_none ks.keys (first_at ks (first + w)) (8 * (8 * p + w)) (λ e. omega (arith, z w h))) }
 
-  pub told_all : (w mask : ℕ) → w ≡ 8 → Filled Steps w mask → ChildMarks ks first p mask
-  told_all w mask e s =
-      let f : Filled Steps 8 mask = subst (λ (n : ℕ). Filled Steps n mask) e s in
-      record { small = f.small; marks = λ i h. decides_is (marked mask i) (steps ks (first + i) (8 * p + i)) (f.marks i h) }
-
 pub marks_as : {ks : Nodes} {first k j mask : ℕ} → k ≡ j → ChildMarks ks first k mask → ChildMarks ks first j mask
 marks_as {ks} {first} {k} {j} {mask} e m = subst (λ (i : ℕ). ChildMarks ks first i mask) e m
 
@@ -177,9 +156,6 @@ module _ (ks : Nodes) (c : ℕ) (at : List ℕ) (mask : ℕ) where
   pub record Stacked (n below : ℕ) : Type 0 where
     pub small : below < 2 ^ (8 * n)
     pub marks : (o : ℕ) → o < n → (w : ℕ) → w < 8 → marked below (8 * o + w) ≡ Bit o w
-
-  pub stacked_none : Stacked 0 0
-  stacked_none = record { small = omega arith; marks = λ o h. absurd (omega arith) }
 
   module _ (n below : ℕ) (s : Stacked n below) where
     wider : 8 + 8 * n ≡ 8 * (n + 1)
@@ -203,15 +179,6 @@ module _ (ks : Nodes) (c : ℕ) (at : List ℕ) (mask : ℕ) where
               (λ w l. marked_over below x (8 * n) s.small w ∙ cm.marks w l ∙ sym (ap (λ (r : Bool). r && steps ks (get_or at n 0 + w) (8 * sub c n + w)) e));
         })
 
-    pub stacked_fits : (x : ℕ) → n < 8 → ChildMarks ks (get_or at n 0) (sub c n) x → below + (x * 2 ^ (8 * n)) % 2 ^ 64 < 2 ^ 64
-    stacked_fits x h cm =
-        omega (
-          arith,
-          shift_exact (8 * n) 8 x (omega arith) cm.small,
-          put_lt below x (8 * n) s.small 8 cm.small,
-          pow_mono {i = 8 + 8 * n} {j = 64} (omega arith),
-        )
-
     pub stacked_no : marked mask n ≡ false → Stacked (n + 1) below
     stacked_no f =
         record {
@@ -220,9 +187,6 @@ module _ (ks : Nodes) (c : ℕ) (at : List ℕ) (mask : ℕ) where
               (λ w l. marked_past below (8 * n + w) (omega (arith, s.small, pow_mono {i = 8 * n} {j = 8 * n + w} (omega arith)))
               ∙ sym (ap (λ (r : Bool). r && steps ks (get_or at n 0 + w) (8 * sub c n + w)) f));
         }
-
-  pub stacked_all : (n below : ℕ) → n ≡ 8 → Stacked n below → BelowMarks ks c at mask below
-  stacked_all n below e s o h = s.marks o (omega arith)
 
 -- ---- masks in common
 

@@ -51,6 +51,7 @@ struct Out<'a> {
 }
 
 // Whether bit i of a mask is set.
+#[tactic(auto, unfolding(crate::specs::Block::marked))]
 fn marked(mask: u64, i: usize) -> bool
     requires { i < 64 }
     ensures { result ≡ marked mask i }
@@ -397,6 +398,7 @@ fn whole(nodes: &Nodes, vertices: &mut [u64], levels: &mut [u8]) -> usize
 
 // No tree of so many keys has more vertices, nor do tables that hold none: each vertex is one of the 19 middles of a split cell, and each split cell
 // has eight keys of its own below the root.
+#[tactic(auto, unfolding(crate::specs::Walk::most_of))]
 fn most_vertices(keys: usize) -> usize
     requires { keys ≤ 2 ^ 61 }
     ensures { result ≡ most_of keys }

@@ -2,9 +2,6 @@
 use Rattle.vertices.proofs.Glance.{touched_none, touched_yes}
 use Rattle.vertices.proofs.Block.touched.Goals as goal
 
-pub returns-then-self-q-ne0 : goal.returns-then-self-q-ne0
-returns-then-self-q-ne0 c = λ t. c.if-self-q-ne0.true t.full
-
 pub returns-then-self-kept_by-eq0 : goal.returns-then-self-kept_by-eq0
 returns-then-self-kept_by-eq0 c = touched_none _ _ _ c.requires.0 c.kept_by.ensures _ c.if-self-kept_by-eq0.true
 
