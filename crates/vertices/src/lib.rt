@@ -96,10 +96,8 @@ fn split_children(nodes: &Nodes, first: usize, node: u64) -> u64
 fn lower_cell(cell: u64, o: usize) -> u64
     ensures { result ≡ sub cell o }
 {
-    let from = Key { code: cell };
     let by = Key { code: o as u64 };
-    let key = from.sub(by);
-    key.code
+    Key { code: cell }.sub(by).code
 }
 
 // Which children of the parent's entries the entries of child q are, eight bits for each of the parent's. As a choice, it is a table that the
@@ -383,11 +381,10 @@ fn from_root(nodes: &Nodes, wanted: &Wanted, out: &mut Out) -> usize
 fn whole(nodes: &Nodes, vertices: &mut [u64], levels: &mut [u8]) -> usize
     ensures { Laid (spots_of (the_nodes nodes.now)) 0 result vertices.old levels.old vertices.new levels.new }
 {
-    let mut no_places = [0usize; 1];
     let mut out = Out {
         vertices,
         levels,
-        places: &mut no_places,
+        places: &mut [],
     };
     let every = Wanted {
         from: 0,
@@ -403,10 +400,7 @@ fn most_vertices(keys: usize) -> usize
     requires { keys ≤ 2 ^ 61 }
     ensures { result ≡ most_of keys }
 {
-    if keys == 0 {
-        return 0;
-    }
-    19 * ((keys - 1) / 8)
+    19 * (keys.saturating_sub(1) / 8)
 }
 
 // Whether the list has room in tables of so many places. Only where there is less room than for the most vertices that there can be are they counted,
@@ -417,9 +411,7 @@ fn list_has_room(nodes: &Nodes, start: usize, len: usize) -> bool
     if has_room(len, start, most_vertices(nodes.keys.len())) {
         return true;
     }
-    let mut no_vertices = [0u64; 1];
-    let mut no_levels = [0u8; 1];
-    let n = whole(nodes, &mut no_vertices, &mut no_levels);
+    let n = whole(nodes, &mut [], &mut []);
     has_room(len, start, n)
 }
 
