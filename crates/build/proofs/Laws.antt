@@ -92,6 +92,9 @@ counts s z room h =
       leaf_room = leb-true _ _ h4.1;
     }
 
+pub counts_small : (s : State) (z : Lengths) (room : ℕ) → room ≤ 4096 → counts_fit s z room ≡ true → (s.nodes ≤ 4096) × (s.leaves ≤ 4096)
+counts_small s z room l h = let k = counts s z room h in omega (arith, k.few, k.room)
+
 pub record Same (a b : Lengths) : Type 0 where
   pub keys : a.keys ≡ b.keys
   pub distances : a.distances ≡ b.distances

@@ -1,9 +1,9 @@
 -- The queue as a ring: which items share a place, and what stands in it after the children of a cell are stored. Assumes nothing.
 use Prim.Native.Nat.{ℕ, zero, suc, ◌+◌, ◌*◌, ◌/◌, ◌%◌, ◌≤◌, ◌<◌}
-use mathlib.Core.Path.{◌≡◌, refl, sym, ◌∙◌, ap}
+use mathlib.Core.Path.{◌≡◌, refl, ◌∙◌, ap}
 use mathlib.Core.List.{List}
 use native.Mathlib.Omega.{arith}
-use native.Mathlib.Nat.{mod-lt, mod-eq_of_lt, mod_self, div-add-mod, mul-le-mul_left, mul-suc, mod-add-mod}
+use native.Mathlib.Nat.{mod-lt, div-add-mod, mul-le-mul_left, mul-suc, mod-add-mod}
 use native.Mathlib.Decide.{dec_lt}
 use native.Mathlib.Numerals.{add-one}
 use lib.ListN.{length, get_or, set, length-set}
@@ -17,20 +17,6 @@ apart q a b l h e = pick (dec_lt (a / q) (b / q)) (div-add-mod a q) (div-add-mod
     pick : Dec (a / q < b / q) → q * (a / q) + a % q ≡ a → q * (b / q) + b % q ≡ b → ⊥
     pick (yes p) da db = let m : q * suc (a / q) ≤ q * (b / q) = mul-le-mul_left q p in let s = mul-suc q (a / q) in omega arith
     pick (no p) da db = let m : q * (b / q) ≤ q * (a / q) = mul-le-mul_left q (omega arith) in omega arith
-
--- ---- the code's two ways to a place
-
-pub place_before : (item q : ℕ) → item < q → item ≡ item % q
-place_before item q h = sym (mod-eq_of_lt h)
-
-pub after_last : (at q : ℕ) → at + 1 ≡ q → 0 ≡ (at + 1) % q
-after_last at q e = rw e (sym (mod_self q))
-
-pub after_other : (at q : ℕ) → at < q → (at + 1 ≡ q → ⊥) → at + 1 ≡ (at + 1) % q
-after_other at q h n = place_before (at + 1) q (omega arith)
-
-pub place_inside : (at item q : ℕ) → 0 < q → at ≡ item % q → at < q
-place_inside at item q h e = rw e (mod-lt item h)
 
 -- ---- the children of a cell
 
@@ -71,15 +57,8 @@ pub record Putting (q₀ : List ℕ) (k item : ℕ) (q : List ℕ) (at i : ℕ) 
   pub place : at ≡ (item + i) % length q₀
   pub stored : q ≡ children_to i q₀ k item
 
-pub putting_length : (q₀ : List ℕ) (k item : ℕ) (q : List ℕ) (at i : ℕ) → Putting q₀ k item q at i → length q ≡ length q₀
+putting_length : (q₀ : List ℕ) (k item : ℕ) (q : List ℕ) (at i : ℕ) → Putting q₀ k item q at i → length q ≡ length q₀
 putting_length q₀ k item q at i p = rw p.stored (length_children i q₀ k item)
-
-pub putting_inside : (q₀ : List ℕ) (k item : ℕ) (q : List ℕ) (at i : ℕ) → Putting q₀ k item q at i → 0 < length q₀ → at < length q
-putting_inside q₀ k item q at i p h = rw (putting_length q₀ k item q at i p) (place_inside at (item + i) (length q₀) h p.place)
-
--- the place is inside the queue after a store too
-pub putting_still : (q₀ : List ℕ) (k item : ℕ) (q : List ℕ) (at i v : ℕ) → Putting q₀ k item q at i → 0 < length q₀ → at < length (set q at v)
-putting_still q₀ k item q at i v p h = rw (length-set q at v) (putting_inside q₀ k item q at i p h)
 
 pub putting_start : (q₀ : List ℕ) (k item at : ℕ) → at ≡ item % length q₀ → Putting q₀ k item q₀ at 0
 unfolding children_to

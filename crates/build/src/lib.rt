@@ -139,6 +139,7 @@ fn is_cell_to(key: u64, top: u32) -> bool
 }
 
 // Whether bound and counts are within the limit and the rooms.
+#[tactic(auto, using(crate::proofs::Walk::called), unfolding(crate::specs::Build::counts_fit))]
 fn counts_fit(s: State, z: Lengths, room: usize) -> bool
     ensures { result ≡ counts_fit s z room }
 {
@@ -155,6 +156,7 @@ fn counts_fit(s: State, z: Lengths, room: usize) -> bool
 }
 
 // Whether nothing is asked, as it should be where every cell is a leaf or split.
+#[tactic(auto, using(crate::proofs::Walk::called), unfolding(crate::specs::Build::idle_fits))]
 fn idle_fits(s: State) -> bool
     requires { (s.nodes ≤ 4096) × (s.leaves ≤ 4096) }
     ensures { result ≡ idle_fits s }
@@ -166,6 +168,7 @@ fn idle_fits(s: State) -> bool
 }
 
 // Whether a cell is asked and the waiting items are in order, `next` being the first of them.
+#[tactic(auto, using(crate::proofs::Walk::called), unfolding(crate::specs::Build::busy_fits))]
 fn busy_fits(s: State, next: u64, top: u32) -> bool
     requires { (s.nodes ≤ 4096) × (s.leaves ≤ 4096) }
     ensures { result ≡ busy_fits s next top }
@@ -188,6 +191,7 @@ fn busy_fits(s: State, next: u64, top: u32) -> bool
 }
 
 // Whether a state fits tables of the lengths `z`, `next` being the key at item n's place.
+#[tactic(auto, using(crate::proofs::Walk::called, crate::proofs::Walk::via_ne_true, crate::proofs::Walk::via_ne_false), unfolding(crate::specs::Build::fits_at, crate::specs::Build::same_lengths))]
 fn fits_at(s: State, z: Lengths, next: u64, room: usize, top: u32) -> bool
     requires { room ≤ 4096 }
     ensures { result ≡ fits_at s z next room top }
@@ -213,6 +217,7 @@ fn is_split(s: State, distance: f32) -> bool
 }
 
 // Refused where there is no room for a leaf or for eight items.
+#[tactic(auto, using(crate::proofs::Walk::called), unfolding(crate::specs::Build::full_of))]
 fn full(s: State, split: bool) -> Result<(), Refusal>
     requires { (s.nodes ≤ 4096) × (8 * s.leaves ≤ 7 * s.nodes) }
     ensures { result ≡ full_of s split }
@@ -230,6 +235,7 @@ fn full(s: State, split: bool) -> Result<(), Refusal>
 }
 
 // Whether the call is refused. Whether the cell is split is found last: after the other tests the compiler knows its level.
+#[tactic(auto, using(crate::proofs::Walk::called), unfolding(crate::specs::Build::refusal_at))]
 fn refusal_at(
     s: State,
     z: Lengths,
@@ -258,6 +264,7 @@ fn refusal_at(
 }
 
 // Begins a build over tables of these lengths: the root is asked for first.
+#[tactic(auto, using(crate::proofs::Walk::called), unfolding(crate::specs::Build::start_at))]
 pub fn start(bound: u32, lengths: Lengths) -> Result<Answer, Refusal>
     ensures { result ≡ start_at bound lengths }
 {

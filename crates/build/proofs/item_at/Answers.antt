@@ -2,17 +2,9 @@
 use mathlib.Core.Path.{ap, sym}
 use Prim.Native.Nat.{ℕ, ◌%◌}
 use lib.ListN.{get_or, length, get_or-eq_default}
-use Rattle.build.proofs.Ring.{place_inside}
-use borrow.Author.Rules.{scaled_Fits}
 use Rattle.build.specs.Build.{item_at}
 use native.Mathlib.Omega.{arith}
 use Rattle.build.proofs.item_at.Goals as goal
-
-pub offset_bounds-queue-at : goal.offset_bounds-queue-at
-offset_bounds-queue-at c = scaled_Fits _ _ 8 (place_inside _ _ _ c.if-queue-gt0.true c.place-at.ensures) (omega arith)
-
-pub bounds-queue-at : goal.bounds-queue-at
-bounds-queue-at c = place_inside _ _ _ c.if-queue-gt0.true c.place-at.ensures
 
 pub returns-then-queue-gt0 : goal.returns-then-queue-gt0
 unfolding item_at

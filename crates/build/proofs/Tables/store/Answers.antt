@@ -1,18 +1,11 @@
 -- `store` meets its contract: the node, then the leaf or the children, each at its place. Assumes nothing.
 use mathlib.Core.Path.{refl}
 use Rattle.build.specs.Build.{first_of, stored_of, leaves_of, queue_of}
-use native.Mathlib.Omega.{arith}
 use Rattle.build.proofs.Tables.store.Goals as goal
-
-pub put_children-requires : goal.put_children-requires
-put_children-requires c = let r = c.requires.ring_room c.if-split.true in omega arith
 
 pub returns-then-split-clause-stored : goal.returns-then-split-clause-stored
 unfolding first_of stored_of leaves_of queue_of
 returns-then-split-clause-stored c = rw (c.if-split.true, c.put_children.ensures) (refl, refl)
-
-pub bounds-self-m : goal.bounds-self-m
-bounds-self-m c = c.requires.leaf_room c.if-split.false
 
 pub returns-clause-stored : goal.returns-clause-stored
 unfolding first_of stored_of leaves_of queue_of
