@@ -1,9 +1,11 @@
 -- What the program `counts` prints for the bytes of its input, in document 01's words. Assumes nothing.
-use Rattle.std.specs.Prelude.{ℕ, zero, suc, ◌+◌, ◌*◌, ◌/◌, ◌%◌, cond, List, [], ◌∷◌, ◌++◌, ltb, take, replicate, Float}
+use Rattle.std.specs.Prelude.{ℕ, zero, suc, ◌+◌, ◌*◌, ◌/◌, ◌%◌, cond, List, [], ◌∷◌, ◌++◌, ltb, take, replicate, Float, Result, Ok, Err}
 use Rattle.std.specs.Float.Ieee.{of_bits}
 use Rattle.std.specs.Float.{binary32}
 use Rattle.build.specs.declared.Answer.{Answer}
-use Rattle.build.specs.declared.Answer.TheVariants.{Ask, Finished, Refused}
+use Rattle.build.specs.declared.Answer.TheVariants.{Ask, Finished}
+use Rattle.refusals.specs.declared.Refusal.{Refusal}
+use Rattle.refusals.specs.Refusals.{number}
 use Rattle.build.specs.Build.{Tables, tables_of, Outcome, outcome, start_of, distance_of}
 use Rattle.counting.specs.Vertices.{vertex_count}
 
@@ -31,10 +33,10 @@ abbrev pub lent : Tables
 lent = tables_of zeros (replicate 1024 (of_bits binary32 0)) zeros zeros zeros
 
 -- The next distance is for the cell that is asked for; where none is, it is ignored.
-abbrev pub next_of : Answer → Tables → Float → Outcome
-next_of (Ask r s) t d = distance_of s d t
-next_of (Finished s) t d = outcome (Finished s) t
-next_of (Refused k) t d = outcome (Refused k) t
+abbrev pub next_of : Result Answer Refusal → Tables → Float → Outcome
+next_of (Ok (Ask r s)) t d = distance_of s d t
+next_of (Ok (Finished s)) t d = outcome (Ok (Finished s)) t
+next_of (Err e) t d = outcome (Err e) t
 
 -- Distances in asked order.
 unfoldable pub after_all : List Float → Outcome → Outcome
@@ -75,10 +77,10 @@ unfoldable pub tree_line : ℕ → ℕ → ℕ → List ℕ
 tree_line nodes leaves vertices = cond (ltb 1024 vertices) (refused_line 12) (counts_line nodes leaves vertices)
 
 -- By the last answer: where a cell is still asked for, input has ended first.
-abbrev pub line_for : Answer → Tables → List ℕ
-line_for (Ask r s) t = short_line
-line_for (Finished s) t = tree_line s.nodes s.leaves (vertex_count (take s.leaves t.leaves))
-line_for (Refused k) t = refused_line k
+abbrev pub line_for : Result Answer Refusal → Tables → List ℕ
+line_for (Ok (Ask r s)) t = short_line
+line_for (Ok (Finished s)) t = tree_line s.nodes s.leaves (vertex_count (take s.leaves t.leaves))
+line_for (Err e) t = refused_line (number e)
 
 abbrev pub line_at : Outcome → List ℕ
 line_at o = line_for o.answer o.tables

@@ -1,17 +1,17 @@
 #![tactic(auto)]
 // What document 01's program `counts` prints for the bytes of its input: a bound byte and then f32 distances, little-endian, in the order in which
 // they are asked for.
-ghost use Rattle.std.specs.Prelude.{◌≡◌, ℕ, ◌+◌, ◌≤◌, ◌<◌, List, [], ◌∷◌, ◌++◌, length, get_or, take, drop};
-ghost use Rattle.std.specs.Float.{binary32};
-ghost use Rattle.std.specs.Float.Ieee.{of_bits};
-ghost use Rattle.build.specs.Build.{tables_of, outcome, start_of};
+ghost use Rattle.std.specs.Prelude.{◌≡◌, ℕ, ◌+◌, ◌≤◌, ◌<◌, List, [], ◌∷◌, ◌++◌, length, take};
+ghost use Rattle.refusals.specs.Refusals.{number};
+ghost use Rattle.build.specs.Build.{tables_in, outcome, start_of};
 ghost use Rattle.counting.specs.Vertices.{vertex_count};
-ghost use Rattle.counting.specs.Printed.{little_endian, distances_in, after_all, decimal, short_line, refused_line, counts_line, tree_line, line_of};
-ghost use Rattle.counting.specs.Writing.{Built, listed_of};
+ghost use Rattle.counting.specs.Printed.{distances_in, after_all, decimal, short_line, refused_line, counts_line, tree_line, line_of};
+ghost use Rattle.counting.specs.Writing.{float_of, Built, listed_of};
 
-use build::{Answer, State};
+use build::{Answer, State, Tables};
+use refusals::Refusal;
 use std::marker::Model;
-use vertices::ListAnswer;
+use tree::{Nodes, Tree};
 
 // A line's bytes, of which there are 64 at most.
 #[derive(Drop)]
@@ -94,12 +94,12 @@ fn short() -> Text
 }
 
 #[tactic(auto, unfolding(crate::specs::Printed::refused_line))]
-fn refused(number: u32) -> Text
-    ensures { result ≡ refused_line number }
+fn refused(refusal: Refusal) -> Text
+    ensures { result ≡ refused_line (number refusal) }
 {
     let mut text = Text::new();
     text.put_all(b"refused ");
-    text.put_number(u64::from(number), b'\n');
+    text.put_number(u64::from(refusal.number()), b'\n');
     text
 }
 
@@ -114,86 +114,56 @@ fn counts(nodes: usize, leaves: usize, vertices: usize) -> Text
     text
 }
 
-// ---- reading
-
-fn bound_of(input: &[u8]) -> u32
-    requires { 0 < length input.now }
-    ensures { result ≡ get_or input.now 0 0 }
-{
-    u32::from(input[0])
-}
-
-// The distance from place at on.
-fn distance_at(input: &[u8], at: usize) -> f32
-    requires { at + 4 ≤ length input.now }
-    ensures { result ≡ of_bits binary32
-        (little_endian (get_or input.now at 0) (get_or input.now (at + 1) 0)
-        (get_or input.now (at + 2) 0) (get_or input.now (at + 3) 0)) }
-{
-    floats::from_bits(u32::from_le_bytes([input[at], input[at + 1], input[at + 2], input[at + 3]]))
-}
-
 // ---- the build
 
-// The last answer of a build: it is finished, refused, or still asks where the input ends.
-fn drive(
-    input: &[u8],
-    keys: &mut [u64],
-    distances: &mut [f32],
-    firsts: &mut [u16],
-    leaves: &mut [u64],
-    queue: &mut [u64],
-) -> Answer
-    requires { 0 < length input.now }
-    ensures { outcome result (tables_of keys.new distances.new firsts.new leaves.new queue.new)
-        ≡ after_all (distances_in (drop 1 input.now))
-        (outcome (start_of (get_or input.now 0 0) (tables_of keys.old distances.old firsts.old leaves.old queue.old))
-        (tables_of keys.old distances.old firsts.old leaves.old queue.old)) }
+// Little-endian.
+fn distance(four: [u8; 4]) -> f32
+    ensures { result ≡ float_of four }
 {
-    let bound = bound_of(input);
-    let mut answer = build::start(bound, keys, distances, firsts, leaves, queue);
-    let mut at = 1;
-    loop {
+    floats::from_bits(u32::from_le_bytes(four))
+}
+
+// The last answer of a build: it is finished, refused, or still asks where the input ends.
+fn drive(bound: u8, bytes: &[u8], tables: &mut Tables) -> Result<Answer, Refusal>
+    ensures { outcome result (tables_in tables.new)
+        ≡ after_all (distances_in bytes.now) (outcome (start_of bound (tables_in tables.old)) (tables_in tables.old)) }
+{
+    let mut answer = build::start(u32::from(bound), tables.lengths())?;
+    let (fours, _) = bytes.as_chunks::<4>();
+    for four in fours {
         let Answer::Ask(_, s) = answer else {
-            return answer;
+            return Ok(answer);
         };
-        if input.len() - at < 4 {
-            return answer;
-        }
-        let d = distance_at(input, at);
-        answer = build::distance(s, keys, distances, firsts, leaves, queue, d);
-        at += 4;
+        answer = build::distance(s, tables, distance(*four))?;
     }
+    Ok(answer)
 }
 
 // The vertex list of a finished build, into tables that aren't kept.
-fn listed(s: State, keys: &[u64], distances: &[f32], firsts: &[u16], leaves: &[u64]) -> ListAnswer
-    requires { Built s keys.now distances.now firsts.now leaves.now }
-    ensures { result ≡ listed_of (take s.leaves leaves.now) }
+fn listed(s: State, tables: &Tables) -> Result<usize, Refusal>
+    requires { Built s (tables_in tables.now) }
+    ensures { result ≡ listed_of (take s.leaves tables.now.leaves.now) }
 {
     let mut vertices = [0u64; 1024];
     let mut levels = [0u8; 1024];
-    let n = s.nodes;
-    let m = s.leaves;
-    vertices::list(
-        &keys[..n],
-        &distances[..n],
-        &firsts[..n],
-        &leaves[..m],
-        0,
-        &mut vertices,
-        &mut levels,
-    )
+    let tree = Tree {
+        nodes: Nodes {
+            keys: &tables.keys[..s.nodes],
+            firsts: &tables.firsts[..s.nodes],
+        },
+        distances: &tables.distances[..s.nodes],
+        leaves: &tables.leaves[..s.leaves],
+    };
+    vertices::list(&tree, 0, &mut vertices, &mut levels)
 }
 
-fn tree_line(s: State, keys: &[u64], distances: &[f32], firsts: &[u16], leaves: &[u64]) -> Text
-    requires { Built s keys.now distances.now firsts.now leaves.now }
-    ensures { result ≡ tree_line s.nodes s.leaves (vertex_count (take s.leaves leaves.now)) }
+fn tree_line(s: State, tables: &Tables) -> Text
+    requires { Built s (tables_in tables.now) }
+    ensures { result ≡ tree_line s.nodes s.leaves (vertex_count (take s.leaves tables.now.leaves.now)) }
 {
-    let answer = listed(s, keys, distances, firsts, leaves);
-    match answer {
-        ListAnswer::Count(vertices) => counts(s.nodes, s.leaves, vertices),
-        ListAnswer::Refused(number) => refused(number),
+    match listed(s, tables) {
+        Ok(vertices) => counts(s.nodes, s.leaves, vertices),
+        Err(refusal) => refused(refusal),
     }
 }
 
@@ -202,25 +172,19 @@ pub fn line(input: &[u8]) -> Text
     ensures line { result ≡ line_of input.now }
     ensures fits { length result ≤ 64 }
 {
-    if input.is_empty() {
+    let Some((bound, bytes)) = input.split_first() else {
         return short();
-    }
-    let mut keys = [0u64; 1024];
-    let mut distances = [0.0f32; 1024];
-    let mut firsts = [0u16; 1024];
-    let mut leaves = [0u64; 1024];
-    let mut queue = [0u64; 1024];
-    let answer = drive(
-        input,
-        &mut keys,
-        &mut distances,
-        &mut firsts,
-        &mut leaves,
-        &mut queue,
-    );
-    match answer {
-        Answer::Ask(_, _) => short(),
-        Answer::Finished(s) => tree_line(s, &keys, &distances, &firsts, &leaves),
-        Answer::Refused(number) => refused(number),
+    };
+    let mut tables = Tables {
+        keys: &mut [0; 1024],
+        distances: &mut [0.0; 1024],
+        firsts: &mut [0; 1024],
+        leaves: &mut [0; 1024],
+        queue: &mut [0; 1024],
+    };
+    match drive(*bound, bytes, &mut tables) {
+        Ok(Answer::Ask(_, _)) => short(),
+        Ok(Answer::Finished(s)) => tree_line(s, &tables),
+        Err(refusal) => refused(refusal),
     }
 }

@@ -1,67 +1,41 @@
--- `drive` meets its contract, and ends: each distance takes four bytes. Assumes nothing.
-use mathlib.Core.Path.{refl, ◌∙◌}
-use native.Mathlib.Omega.{arith}
-use Rattle.counting.proofs.Bytes.{going_start, going_on, ends_short, ends_idle}
+-- `drive` meets its contract. Assumes nothing.
+use Rattle.std.proofs.Common.{◌≡◌, ◌+◌, ◌∙◌, ap, sym, refl, Result, Ok, drop, drop_of_length-le}
+use Rattle.std.proofs.lemmas.Result.{err_from_is_err_and}
+use Rattle.refusals.specs.declared.Refusal.{Refusal}
+use Rattle.build.specs.declared.Answer.{Answer}
+use Rattle.build.specs.Build.{tables_in, start_of}
+use Rattle.counting.proofs.Bytes.{Going, started, going_start, going_on, ends_short, ends_finished, ends_refused}
 use Rattle.counting.proofs.drive.Goals as goal
+use Rattle.counting.proofs.drive.Goals.{After-start, After-distance-in-loop-four}
 
-pub loop-answer-init : goal.loop-answer-init
-loop-answer-init c = (refl, refl, refl, refl, refl, omega (arith, c.requires), going_start _ _ _ c.start-answer.ensures c.bound_of-bound.ensures)
+begun : (c : After-start) → c.start.result ≡ start_of c.args.bound (tables_in c.args.tables.now)
+begun c = started _ c.start.ensures c.from.ensures c.lengths.ensures
 
-pub shape_of-keys-in_default : goal.shape_of-keys-in_default
-shape_of-keys-in_default c = c.loop-answer.invariant.0
+pub returns-in_err-answer : goal.returns-in_err-answer
+returns-in_err-answer c =
+    let p = err_from_is_err_and c.from_residual.result c.from_residual.ensures.1 in
+    rw (p.1, p.2) (ends_refused (going_start (begun (goal.at.returns-in_err-answer c).After-start)) c.in_err-answer.was)
 
-pub shape_of-distances-in_default : goal.shape_of-distances-in_default
-shape_of-distances-in_default c = c.loop-answer.invariant.1
-
-pub shape_of-firsts-in_default : goal.shape_of-firsts-in_default
-shape_of-firsts-in_default c = c.loop-answer.invariant.2
-
-pub shape_of-leaves-in_default : goal.shape_of-leaves-in_default
-shape_of-leaves-in_default c = c.loop-answer.invariant.3
-
-pub shape_of-queue-in_default : goal.shape_of-queue-in_default
-shape_of-queue-in_default c = c.loop-answer.invariant.4
+pub loop-four-init : goal.loop-four-init
+loop-four-init c = rw c.as_chunks.ensures.front (going_start (sym c.in_ok-answer.was ∙ begun (goal.at.loop-four-init c).After-start))
 
 pub returns-in_default : goal.returns-in_default
-returns-in_default c = ends_idle c.loop-answer.invariant.6 c.in_default.not-Ask
+returns-in_default c = ends_finished c.loop-four.invariant (ap Ok c.in_default.is)
 
-pub shape_of-keys-then-input-at-lt4 : goal.shape_of-keys-then-input-at-lt4
-shape_of-keys-then-input-at-lt4 c = c.loop-answer.invariant.0
+-- one distance more
+next : (c : After-distance-in-loop-four) {a : Result Answer Refusal} → c.distance-in-loop-four.result ≡ a
+    → Going c.args.bound c.args.bytes.now (tables_in c.args.tables.now) (drop (c.loop-four.four-index + 1) c.as_chunks.result.0.now) a (tables_in c.distance-in-loop-four.new.tables)
+next c was =
+    going_on c.as_chunks.result.0.now c.loop-four.four-index c.loop-four.invariant c.loop-four-test.true (ap Ok c.in-Ask.is) c.distance.ensures
+    c.distance-in-loop-four.ensures.answered was
 
-pub shape_of-distances-then-input-at-lt4 : goal.shape_of-distances-then-input-at-lt4
-shape_of-distances-then-input-at-lt4 c = c.loop-answer.invariant.1
+pub returns-in_err-answer-2 : goal.returns-in_err-answer-2
+returns-in_err-answer-2 c =
+    let p = err_from_is_err_and c.from_residual-in_err-answer-2.result c.from_residual-in_err-answer-2.ensures.1 in
+    rw (p.1, p.2) (ends_refused (next (goal.at.returns-in_err-answer-2 c).After-distance-in-loop-four refl) c.in_err-answer-2.was)
 
-pub shape_of-firsts-then-input-at-lt4 : goal.shape_of-firsts-then-input-at-lt4
-shape_of-firsts-then-input-at-lt4 c = c.loop-answer.invariant.2
+pub loop-four-preserved : goal.loop-four-preserved
+loop-four-preserved c = next (goal.at.loop-four-preserved c).After-distance-in-loop-four c.in_ok-answer-2.was
 
-pub shape_of-leaves-then-input-at-lt4 : goal.shape_of-leaves-then-input-at-lt4
-shape_of-leaves-then-input-at-lt4 c = c.loop-answer.invariant.3
-
-pub shape_of-queue-then-input-at-lt4 : goal.shape_of-queue-then-input-at-lt4
-shape_of-queue-then-input-at-lt4 c = c.loop-answer.invariant.4
-
-pub returns-then-input-at-lt4 : goal.returns-then-input-at-lt4
-returns-then-input-at-lt4 c = ends_short c.loop-answer.invariant.6 c.in-Ask.is c.if-input-at-lt4.true
-
-pub distance_at-d-requires : goal.distance_at-d-requires
-distance_at-d-requires c = omega (arith, c.if-input-at-lt4.false, c.loop-answer.invariant.5)
-
-pub overflow_add-at : goal.overflow_add-at
-overflow_add-at c = omega (arith, c.if-input-at-lt4.false, c.loop-answer.invariant.5, c.well_formed)
-
-pub loop-answer-smaller : goal.loop-answer-smaller
-loop-answer-smaller c = omega (arith, c.if-input-at-lt4.false, c.loop-answer.invariant.5)
-
-pub loop-answer-preserved : goal.loop-answer-preserved
-loop-answer-preserved c =
-    let k = c.distance-answer.auto in
-    let i = c.loop-answer.invariant in
-    let room = c.if-input-at-lt4.false in (
-      k.keys ∙ i.0,
-      k.distances ∙ i.1,
-      k.firsts ∙ i.2,
-      k.leaves ∙ i.3,
-      k.queue ∙ i.4,
-      omega (arith, room, i.5),
-      going_on i.6 _ c.distance-answer.result _ c.in-Ask.is room c.distance_at-d.ensures c.distance-answer.ensures,
-    )
+pub returns : goal.returns
+returns c = ends_short c.loop-four.invariant (drop_of_length-le c.as_chunks.result.0.now c.loop-four-test.false)

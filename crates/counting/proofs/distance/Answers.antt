@@ -1,7 +1,7 @@
--- `distance_at` meets its contract. Assumes nothing.
+-- `distance` meets its contract. Assumes nothing.
 use Rattle.std.proofs.Common.{rules}
 use Rattle.counting.specs.Printed.{little_endian}
-use Rattle.counting.proofs.distance_at.Goals as goal
+use Rattle.counting.proofs.distance.Goals as goal
 
 pub returns : goal.returns
 unfolding little_endian
