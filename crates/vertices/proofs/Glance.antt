@@ -1,10 +1,11 @@
 -- What a child sees of its parent's block: the rules of the two constant tables, each tested once over the whole table. Assumes nothing.
 use Prim.Native.Nat.{ℕ, ◌+◌, ◌*◌, ◌-◌, ◌^◌, ◌<◌}
 use mathlib.Core.Path.{◌≡◌, refl, sym, ◌∙◌, ap}
-use mathlib.Core.Bool.{Bool, true, not, ◌||◌, true≢false}
+use mathlib.Core.Bool.{Bool, true, false, not, ◌||◌, true≢false}
 use lib.Bits.{bit_and, bit_xor}
 use lib.Dec.{eqb}
-use borrow.Author.Tests.{eqb-true}
+use borrow.Author.Tests.{eqb-true, eqb-false}
+use Rattle.tree.specs.Tree.{Decides}
 use Rattle.vertices.specs.Walk.{all}
 use Rattle.vertices.specs.Block.{seen_by, kept_by, marked, lowered_mark, SeenSays, Touched}
 use Rattle.vertices.proofs.Marks.{apart, shared}
@@ -38,15 +39,23 @@ kept_only : (q o : ℕ) → q < 8 → o < 8 → marked (kept_by q) o ≡ true �
 kept_only q o hq ho e = eqb-true (bit_and o (7 - q)) o (sym (ap (λ (r : Bool). not r || eqb (bit_and o (7 - q)) o) e) ∙ kept_test q o hq ho)
 
 module _ (mask q m : ℕ) (hq : q < 8) (e : m ≡ kept_by q) where
-  pub touched_none : (low : ℕ) → bit_and mask m ≡ 0 → Touched low mask q → ⊥
+  touched_none : (low : ℕ) → bit_and mask m ≡ 0 → Touched low mask q → ⊥
   touched_none low z t =
       let i = bit_and t.fine.0 (7 - q) in
       true≢false (sym t.fine.2 ∙ apart mask m i z (ap (λ (n : ℕ). marked n i) e ∙ kept_bit q t.fine.0 hq t.fine.1))
 
-  pub touched_yes : (low : ℕ) → mask < 2 ^ 8 → bit_and low (7 - q) ≡ 0 → (bit_and mask m ≡ 0 → ⊥) → Touched low mask q
+  touched_yes : (low : ℕ) → mask < 2 ^ 8 → bit_and low (7 - q) ≡ 0 → (bit_and mask m ≡ 0 → ⊥) → Touched low mask q
   touched_yes low h z n =
       let s = shared 8 mask m h n in
       record {
         full = z;
         fine = (s.0, s.1, ap (marked mask) (kept_only q s.0 hq s.1 (sym (ap (λ (n : ℕ). marked n s.0) e) ∙ s.3)) ∙ s.2);
       }
+
+  -- the test, where the child lies at no side
+  pub touched_is : (low : ℕ) → mask < 2 ^ 8 → bit_and low (7 - q) ≡ 0 → Decides (not (eqb (bit_and mask m) 0)) (Touched low mask q)
+  touched_is low h z = go (eqb (bit_and mask m) 0) refl
+    where
+      go : (r : Bool) → eqb (bit_and mask m) 0 ≡ r → Decides (not r) (Touched low mask q)
+      go true e = touched_none low (eqb-true (bit_and mask m) 0 e)
+      go false e = touched_yes low h z (eqb-false (bit_and mask m) 0 e)

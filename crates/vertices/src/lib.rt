@@ -182,10 +182,7 @@ impl Cube {
         requires { (self.level ≤ limit) × Cell self.level self.cell }
         ensures { Decides result (Skipped self.level self.cell wanted.now.from n wanted.now.room) }
     {
-        if n >= wanted.room {
-            return true;
-        }
-        self.passed(wanted.from)
+        n >= wanted.room || self.passed(wanted.from)
     }
 }
 
@@ -210,13 +207,7 @@ impl Block {
         requires { (q < 8) × (self.now.mask < 2 ^ 8) }
         ensures { Decides result (Touched self.now.low self.now.mask q) }
     {
-        if self.low & (7 - q) != 0 {
-            return false;
-        }
-        if self.mask & kept_by(q) == 0 {
-            return false;
-        }
-        true
+        self.low & (7 - q) == 0 && self.mask & kept_by(q) != 0
     }
 
     // The place of entry o of child q.
@@ -284,13 +275,7 @@ fn put(vertices: &mut [u64], levels: &mut [u8], at: usize, vertex: u64, level: u
 fn has_room(len: usize, start: usize, n: usize) -> bool
     ensures { Decides result (start + n ≤ len) }
 {
-    if len < start {
-        return false;
-    }
-    if len - start < n {
-        return false;
-    }
-    true
+    start <= len && n <= len - start
 }
 
 impl Out<'_> {
