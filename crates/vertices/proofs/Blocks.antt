@@ -112,7 +112,8 @@ module _ (ks : Nodes) (l c : ℕ) where
   unfolding ending
   ending_none e = ap (λ (r : Bool). cond r (record { vertex = low_corner l c; level = l } ∷ []) []) e
 
-  pub ending_by : (P : List Spot → Type 0) → (meets ks l c ≡ true → P (record { vertex = low_corner l c; level = l } ∷ [])) → (meets ks l c ≡ false → P []) → P (ending ks l c)
+  pub ending_by : (P : List Spot → Type 0) → (meets ks l c ≡ true → P (record { vertex = low_corner l c; level = l } ∷ []))
+      → (meets ks l c ≡ false → P []) → P (ending ks l c)
   ending_by P f g = decided (meets ks l c) (λ e. subst P (sym (ending_one e)) (f e)) (λ e. subst P (sym (ending_none e)) (g e))
 
   pub undivided : divided ks l c ≡ false → (o : ℕ) → o < 8 → split_at ks l (entry ks l c o) ≡ false
@@ -249,7 +250,10 @@ module _ (ks : Nodes) (l c : ℕ) (at : List ℕ) (mask low : ℕ) (h : Here ks 
       place_is = go (below ks l c q o hq ho)
         where
           go : Below ks l c q o hq ho → lowered_place at mask q o ≡ place_at ks (suc l) (8 * c + q) o
-          go (down s e p k) = lowered_is at mask q o (mark_is ∙ s) ∙ ap (λ (n : ℕ). n + bit_xor q o) (here_split (bit_and o (7 - q)) (kept_lt o q ho) (mark_is ∙ s)) ∙ sym p
+          go (down s e p k) =
+              lowered_is at mask q o (mark_is ∙ s)
+              ∙ ap (λ (n : ℕ). n + bit_xor q o) (here_split (bit_and o (7 - q)) (kept_lt o q ho) (mark_is ∙ s))
+              ∙ sym p
           go (stay s e p) = lowered_is at mask q o (mark_is ∙ s) ∙ here_leaf (bit_and o (7 - q)) (kept_lt o q ho) (mark_is ∙ s) ∙ sym p
 
     module _ (bits : ℕ) (bm : BelowMarks ks c at mask bits) where
@@ -262,8 +266,9 @@ module _ (ks : Nodes) (l c : ℕ) (at : List ℕ) (mask low : ℕ) (h : Here ks 
               ≡ split_at ks (suc l) (entry ks (suc l) (8 * c + q) o)
           go (down s e p k) =
               let m : marked mask (bit_and o (7 - q)) ≡ true = mark_is o ho ∙ s in
+              let i = bit_and o (7 - q) in
               ap₂ ◌&&◌ m
-              (ap₂ (λ (m n : ℕ). steps ks (m + bit_xor q o) (8 * n + bit_xor q o)) (here_split (bit_and o (7 - q)) (kept_lt o q ho) m) (here_side (bit_and o (7 - q)) (kept_lt o q ho) m))
+              (ap₂ (λ (m n : ℕ). steps ks (m + bit_xor q o) (8 * n + bit_xor q o)) (here_split i (kept_lt o q ho) m) (here_side i (kept_lt o q ho) m))
               ∙ sym k
           go (stay s e p) =
               ap (λ (r : Bool). r && steps ks (get_or at (bit_and o (7 - q)) 0 + bit_xor q o) (8 * sub c (bit_and o (7 - q)) + bit_xor q o)) (mark_is o ho ∙ s)

@@ -23,7 +23,9 @@ seen_bit = each (λ q o. marked (seen_by q) (8 * bit_and o (7 - q) + bit_xor q o
 
 pub seen_says : (below q m : ℕ) → q < 8 → m ≡ seen_by q → SeenSays below q (bit_and below m)
 unfolding lowered_mark
-seen_says below q m hq e z o ho = apart below m (8 * bit_and o (7 - q) + bit_xor q o) z (ap (λ (n : ℕ). marked n (8 * bit_and o (7 - q) + bit_xor q o)) e ∙ seen_bit q o hq ho)
+seen_says below q m hq e z o ho =
+    let i = 8 * bit_and o (7 - q) + bit_xor q o in
+    apart below m i z (ap (λ (n : ℕ). marked n i) e ∙ seen_bit q o hq ho)
 
 -- ---- the entries
 

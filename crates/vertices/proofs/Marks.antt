@@ -84,7 +84,14 @@ module _ (m x k : ℕ) (h : m < 2 ^ k) where
   -- and it has as many bits more as x
   put_lt : (j : ℕ) → x < 2 ^ j → m + x * 2 ^ k < 2 ^ (j + k)
   put_lt j l =
-      omega (arith, pow-add 2 j k, mul-le-mul_right {m = suc x} {n = 2 ^ j} (2 ^ k) l, add-mul x 1 (2 ^ k), one-mul (2 ^ k), ap (λ (n : ℕ). n * 2 ^ k) (add-one x))
+      omega (
+        arith,
+        pow-add 2 j k,
+        mul-le-mul_right {m = suc x} {n = 2 ^ j} (2 ^ k) l,
+        add-mul x 1 (2 ^ k),
+        one-mul (2 ^ k),
+        ap (λ (n : ℕ). n * 2 ^ k) (add-one x),
+      )
 
 -- x of j bits moved up by n
 shift_exact : (n j x : ℕ) → j + n ≤ 64 → x < 2 ^ j → (x * 2 ^ n) % 2 ^ 64 ≡ x * 2 ^ n
@@ -141,7 +148,10 @@ module _ (ks : Nodes) (first p : ℕ) where
   pub told_none : ((w : ℕ) → w < 8 → first_at ks (first + w) ≡ 0) → ChildMarks ks first p 0
   unfolding steps
   told_none z =
-      record { small = omega arith; marks = λ w h. marked_zero w ∙ sym (leads_none ks.keys (first_at ks (first + w)) (8 * (8 * p + w)) (λ e. omega (arith, z w h))) }
+      record {
+        small = omega arith;
+        marks = λ w h. marked_zero w ∙ sym (leads_none ks.keys (first_at ks (first + w)) (8 * (8 * p + w)) (λ e. omega (arith, z w h)));
+      }
 
 pub marks_as : {ks : Nodes} {first k j mask : ℕ} → k ≡ j → ChildMarks ks first k mask → ChildMarks ks first j mask
 marks_as {ks} {first} {k} {j} {mask} e m = subst (λ (i : ℕ). ChildMarks ks first i mask) e m
@@ -170,7 +180,8 @@ module _ (ks : Nodes) (c : ℕ) (at : List ℕ) (mask : ℕ) where
           | no g ↦ let q : n ≡ o = omega arith in subst (λ (j : ℕ). marked m (8 * j + w) ≡ Bit j w) q (last w l)
         ]
 
-    pub stacked_yes : (x : ℕ) → n < 8 → marked mask n ≡ true → ChildMarks ks (get_or at n 0) (sub c n) x → Stacked (n + 1) (below + (x * 2 ^ (8 * n)) % 2 ^ 64)
+    pub stacked_yes : (x : ℕ) → n < 8 → marked mask n ≡ true → ChildMarks ks (get_or at n 0) (sub c n) x
+        → Stacked (n + 1) (below + (x * 2 ^ (8 * n)) % 2 ^ 64)
     stacked_yes x h e cm =
         rw (shift_exact (8 * n) 8 x (omega arith) cm.small)
         (record {

@@ -169,9 +169,12 @@ module _ (ks : Nodes) where
     stored_join ss ts at n r t0 t1 t2 k a b =
         record {
           count = omega (arith, a.count, b.count, ap length both, length-append first second);
-          vertices_are = λ p q. one (vertices_of first) (vertices_of second) (vertices_of (wanted from (room - at) (ss ++ ts))) at n t0.vertices t1.vertices t2.vertices (ap vertices_of both ∙ vertices_append first second) (omega (arith, a.count, vertices_length first)) (a.vertices_are (small p) (small q)) (b.vertices_are (omega (arith, k.vertices)) (omega (arith, k.levels)));
-          levels_are = λ p q. one (levels_of first) (levels_of second) (levels_of (wanted from (room - at) (ss ++ ts))) at n t0.levels t1.levels t2.levels (ap levels_of both ∙ levels_append first second) (omega (arith, a.count, levels_length first)) (a.levels_are (small p) (small q)) (b.levels_are (omega (arith, k.vertices)) (omega (arith, k.levels)));
-          places_are = λ p. one (places_of ks first) (places_of ks second) (places_of ks (wanted from (room - at) (ss ++ ts))) (8 * at) (8 * n) t0.places t1.places t2.places (ap (places_of ks) both ∙ places_append first second) (omega (arith, a.count, places_length first)) (a.places_are (omega (arith, b.count))) (b.places_are (omega (arith, k.places)));
+          vertices_are = λ p q. one vertices_of at n _ _ _ (vertices_append first second) (omega (arith, a.count, vertices_length first))
+              (a.vertices_are (small p) (small q)) (b.vertices_are (omega (arith, k.vertices)) (omega (arith, k.levels)));
+          levels_are = λ p q. one levels_of at n _ _ _ (levels_append first second) (omega (arith, a.count, levels_length first))
+              (a.levels_are (small p) (small q)) (b.levels_are (omega (arith, k.vertices)) (omega (arith, k.levels)));
+          places_are = λ p. one (places_of ks) (8 * at) (8 * n) _ _ _ (places_append first second) (omega (arith, a.count, places_length first))
+              (a.places_are (omega (arith, b.count))) (b.places_are (omega (arith, k.places)));
         }
       where
         small : {m : ℕ} → r ≤ m → n ≤ m
@@ -188,13 +191,15 @@ module _ (ks : Nodes) where
             let e : room - at - length (wanted from (room - at) ss) ≡ room - n = omega (arith, a.count) in
             wanted_append from ss ts (room - at) ∙ ap (λ (k : ℕ). wanted from (room - at) ss ++ wanted from k ts) e
 
-        one : (xs ys zs : List ℕ) (i j : ℕ) (u0 u1 u2 : List ℕ) → zs ≡ xs ++ ys → j ≡ i + length xs → u1 ≡ sets u0 i xs → u2 ≡ sets u1 j ys → u2 ≡ sets u0 i zs
-        one xs ys zs i j u0 u1 u2 z e p q =
+        -- one table: what is told of each spot stands in it, for the first, then for the second
+        one : (f : List Spot → List ℕ) (i j : ℕ) (u0 u1 u2 : List ℕ) → f (first ++ second) ≡ f first ++ f second → j ≡ i + length (f first)
+            → u1 ≡ sets u0 i (f first) → u2 ≡ sets u1 j (f second) → u2 ≡ sets u0 i (f (wanted from (room - at) (ss ++ ts)))
+        one f i j u0 u1 u2 z e p q =
             q
-            ∙ ap (λ (t : List ℕ). sets t j ys) p
-            ∙ ap (λ (k : ℕ). sets (sets u0 i xs) k ys) e
-            ∙ sym (sets_append xs ys u0 i)
-            ∙ ap (sets u0 i) (sym z)
+            ∙ ap (λ (t : List ℕ). sets t j (f second)) p
+            ∙ ap (λ (k : ℕ). sets (sets u0 i (f first)) k (f second)) e
+            ∙ sym (sets_append (f first) (f second) u0 i)
+            ∙ ap (sets u0 i) (sym (ap f both ∙ z))
 
     -- ---- a divided cell, child by child
 
@@ -228,7 +233,8 @@ module _ (ks : Nodes) where
       pub grown_deep : (q n : ℕ) (t : Cells) → limit ≤ l + 1 → divided ks (suc l) (8 * c + q) ≡ true → Grown l c q n n t t
       grown_deep q n t h d =
           let z : limit - suc l ≡ 0 = omega arith in
-          subst (λ (ss : List Spot). Stored ks from room ss n n t t) (sym (ap (λ (k : ℕ). walked k ks (suc l) (8 * c + q)) z ∙ walked_stop ks (suc l) (8 * c + q) d)) (stored_none n t)
+          subst (λ (ss : List Spot). Stored ks from room ss n n t t)
+          (sym (ap (λ (k : ℕ). walked k ks (suc l) (8 * c + q)) z ∙ walked_stop ks (suc l) (8 * c + q) d)) (stored_none n t)
 
       -- a child that is skipped
       pub grown_skipped : (q n : ℕ) (t : Cells) → l < limit → Skipped (l + 1) (8 * c + q) from n room → Grown l c q n n t t
@@ -237,7 +243,10 @@ module _ (ks : Nodes) where
           (⊎_elim
           (λ h. wanted_below from (walked (limit - suc l) ks (suc l) (8 * c + q)) (low_corner (suc l) (8 * c + q + 1)) (room - n)
           (subst (λ (j : ℕ). low_corner j (8 * c + q + 1) ≤ from) (add-one l) h) (below_walked from ks (limit - suc l) (suc l) (8 * c + q) (omega arith)))
-          (λ h. let z : room - n ≡ 0 = omega arith in ap (λ (j : ℕ). wanted from j (walked (limit - suc l) ks (suc l) (8 * c + q))) z ∙ wanted_nothing from (walked (limit - suc l) ks (suc l) (8 * c + q)))
+          (λ h.
+          let z : room - n ≡ 0 = omega arith in
+          ap (λ (j : ℕ). wanted from j (walked (limit - suc l) ks (suc l) (8 * c + q))) z
+          ∙ wanted_nothing from (walked (limit - suc l) ks (suc l) (8 * c + q)))
           k)
 
       -- a child where the walk ends
@@ -250,7 +259,8 @@ module _ (ks : Nodes) where
         the_spot : Spot
         the_spot = record { vertex = low_corner (suc l) (8 * c + q); level = suc l }
 
-        grown_ending : meets ks (suc l) (8 * c + q) ≡ true → (n r : ℕ) (t0 t1 : Cells) → Stored ks from room (the_spot ∷ []) n r t0 t1 → Grown l c q n r t0 t1
+        grown_ending : meets ks (suc l) (8 * c + q) ≡ true → (n r : ℕ) (t0 t1 : Cells) → Stored ks from room (the_spot ∷ []) n r t0 t1
+            → Grown l c q n r t0 t1
         unfolding the_spot
         grown_ending m n r t0 t1 s =
             subst (λ (ss : List Spot). Stored ks from room ss n r t0 t1)
@@ -287,18 +297,30 @@ module _ (ks : Nodes) where
             right : Took from v (l + 1) n (eight (lowered_place at mask q)) t0 t1 r → Grown l c q n r t0 t1
             right a = grown_ending m n r t0 t1 (taken a (wanted_one from the_spot (room - n) (omega (arith, a.wanted_one, low)) (omega arith)))
               where
-                taken : Took from v (l + 1) n (eight (lowered_place at mask q)) t0 t1 r → wanted from (room - n) (the_spot ∷ []) ≡ the_spot ∷ [] → Stored ks from room (the_spot ∷ []) n r t0 t1
+                taken : Took from v (l + 1) n (eight (lowered_place at mask q)) t0 t1 r → wanted from (room - n) (the_spot ∷ []) ≡ the_spot ∷ []
+                    → Stored ks from room (the_spot ∷ []) n r t0 t1
                 taken a w =
                     record {
                       count = omega (arith, a.next, ap length w);
-                      vertices_are = λ p q. (a.put (omega (arith, a.next)) (omega (arith, a.next))).0 ∙ ap (set t0.vertices n) low ∙ sym (ap (λ (xs : List Spot). sets t0.vertices n (vertices_of xs)) w);
-                      levels_are = λ p q. (a.put (omega (arith, a.next)) (omega (arith, a.next))).1 ∙ ap (set t0.levels n) (add-one l) ∙ sym (ap (λ (xs : List Spot). sets t0.levels n (levels_of xs)) w);
-                      places_are = λ p. a.round (omega (arith, a.next)) ∙ ap (sets t0.places (8 * n)) (round_is at mask h) ∙ sym (ap (λ (xs : List Spot). sets t0.places (8 * n) (places_of ks xs)) w ∙ ap (sets t0.places (8 * n)) (append-nil (round_of ks the_spot)));
+                      vertices_are = λ p q.
+                          (a.put (omega (arith, a.next)) (omega (arith, a.next))).0
+                          ∙ ap (set t0.vertices n) low
+                          ∙ sym (ap (λ (xs : List Spot). sets t0.vertices n (vertices_of xs)) w);
+                      levels_are = λ p q.
+                          (a.put (omega (arith, a.next)) (omega (arith, a.next))).1
+                          ∙ ap (set t0.levels n) (add-one l)
+                          ∙ sym (ap (λ (xs : List Spot). sets t0.levels n (levels_of xs)) w);
+                      places_are = λ p.
+                          a.round (omega (arith, a.next))
+                          ∙ ap (sets t0.places (8 * n)) (round_is at mask h)
+                          ∙ sym (ap (λ (xs : List Spot). sets t0.places (8 * n) (places_of ks xs)) w
+                          ∙ ap (sets t0.places (8 * n)) (append-nil (round_of ks the_spot)));
                     }
 
 module _ (ks : Nodes) (from room : ℕ) where
   -- the level of the code
-  pub grown_on : (l c q n r : ℕ) (t0 t1 : Cells) → Stored ks from room (walked (limit - (l + 1)) ks (l + 1) (8 * c + q)) n r t0 t1 → Grown ks from room l c q n r t0 t1
+  pub grown_on : (l c q n r : ℕ) (t0 t1 : Cells) → Stored ks from room (walked (limit - (l + 1)) ks (l + 1) (8 * c + q)) n r t0 t1
+      → Grown ks from room l c q n r t0 t1
   grown_on l c q n r t0 t1 a = subst (λ (k : ℕ). Stored ks from room (walked (limit - k) ks k (8 * c + q)) n r t0 t1) (add-one l) a
 
   -- one more child, in the same tables, no further than there is room
@@ -330,24 +352,24 @@ module _ (ks : Nodes) (from room : ℕ) (was : Cells) (e : room ≡ room_of was)
       let l : n ≤ length was.levels = omega (arith, a.count, most, e) in
       let p : 8 * n ≤ length was.places = omega (arith, a.count, most, e) in
       record {
-        count = a.count ∙ zero-add (length (wanted from (room - 0) (spots_of ks))) ∙ ap length same;
-        vertices_are = told vertices_of was.vertices left.vertices (ve ∙ a.vertices_are v l) (omega (arith, a.count, vertices_length (wanted from (room - 0) (spots_of ks))));
-        levels_are = told levels_of was.levels left.levels (le ∙ a.levels_are v l) (omega (arith, a.count, levels_length (wanted from (room - 0) (spots_of ks))));
-        places_are = told (places_of ks) was.places left.places (pe ∙ a.places_are p) (omega (arith, a.count, places_length ks (wanted from (room - 0) (spots_of ks))));
+        count = a.count ∙ zero-add (length some) ∙ ap length same;
+        vertices_are = told vertices_of was.vertices left.vertices (ve ∙ a.vertices_are v l) (omega (arith, a.count, vertices_length some));
+        levels_are = told levels_of was.levels left.levels (le ∙ a.levels_are v l) (omega (arith, a.count, levels_length some));
+        places_are = told (places_of ks) was.places left.places (pe ∙ a.places_are p) (omega (arith, a.count, places_length ks some));
       }
     where
-      same : wanted from (room - 0) (spots_of ks) ≡ wanted from (room_of was) (spots_of ks)
+      some : List Spot
+      some = wanted from (room - 0) (spots_of ks)
+
+      same : some ≡ wanted from (room_of was) (spots_of ks)
       same = let z : room - 0 ≡ room_of was = omega (arith, e) in ap (λ (k : ℕ). wanted from k (spots_of ks)) z
 
-      most : length (wanted from (room - 0) (spots_of ks)) ≤ room
+      most : length some ≤ room
       most = omega (arith, wanted_most from (room - 0) (spots_of ks))
 
-      told : (f : List Spot → List ℕ) (t u : List ℕ) → u ≡ sets t 0 (f (wanted from (room - 0) (spots_of ks))) → length (f (wanted from (room - 0) (spots_of ks))) ≤ length t
+      told : (f : List Spot → List ℕ) (t u : List ℕ) → u ≡ sets t 0 (f some) → length (f some) ≤ length t
           → u ≡ written t 0 (f (wanted from (room_of was) (spots_of ks)))
-      told f t u p h =
-          p
-          ∙ sets-eq (f (wanted from (room - 0) (spots_of ks))) t 0 (omega arith)
-          ∙ ap (λ (ss : List Spot). written t 0 (f ss)) same
+      told f t u p h = p ∙ sets-eq (f some) t 0 (omega arith) ∙ ap (λ (ss : List Spot). written t 0 (f ss)) same
 
 -- all of them from 0 on
 module _ (ks : Nodes) where

@@ -304,8 +304,9 @@ fn gather(nodes: &Nodes, wanted: &Wanted, block: &Block, out: &mut Out, n: usize
     requires cell_value { divided (the_nodes nodes.now) block.now.cube.level block.now.cube.cell ≡ true }
     requires n_le_room { (n ≤ wanted.now.room) × (block.now.cube.level < limit) × Each16 nodes.now.firsts.now }
     ensures same { SameOut out.old out.new }
-    ensures stored { Stored (the_nodes nodes.now) wanted.now.from wanted.now.room (walked (limit - block.now.cube.level) (the_nodes nodes.now) block.now.cube.level block.now.cube.cell)
-        n result (the_cells out.old) (the_cells out.new) }
+    ensures stored { Stored (the_nodes nodes.now) wanted.now.from wanted.now.room
+        (walked (limit - block.now.cube.level) (the_nodes nodes.now) block.now.cube.level block.now.cube.cell) n result (the_cells out.old)
+        (the_cells out.new) }
 {
     let below = block.split_below(nodes);
     let mut m = n;
