@@ -22,7 +22,8 @@ use Rattle.tree.proofs.One as tree
 use Rattle.build.specs.declared.Request.{Request}
 use Rattle.build.specs.declared.State.{State}
 use Rattle.build.specs.declared.Answer.{Answer}
-use Rattle.build.specs.Build.{Tables, Outcome, start_of, distance_of}
+use Rattle.build.specs.declared.Lengths.{Lengths}
+use Rattle.build.specs.Build.{Tables, Outcome, lengths_of, start_at, start_of, distance_of}
 use Rattle.build.proofs.One as build
 use Rattle.vertices.specs.Listing.{Lists, ListSays, TrustingSays as ListTrustingSays}
 use Rattle.vertices.specs.Cells.{Cells, CellsSays}
@@ -114,7 +115,13 @@ to_bits_one = floats.to_bits_one
 -- ---- builds
 
 pub start_one : (bound : ℕ) (t : Tables) → OnlyOne (λ (r : Result Answer Refusal). r ≡ start_of bound t)
-start_one = build.start_one
+start_one bound t = morton.equal (start_of bound t)
+
+pub start_at_one : (bound : ℕ) (z : Lengths) → OnlyOne (λ (r : Result Answer Refusal). r ≡ start_at bound z)
+start_at_one = build.start_one
+
+pub lengths_one : (t : Tables) → OnlyOne (λ (r : Lengths). r ≡ lengths_of t)
+lengths_one t = morton.equal (lengths_of t)
 
 pub distance_one : (s : State) (d : Float) (t : Tables) → OnlyOne (λ (o : Outcome). o ≡ distance_of s d t)
 distance_one = build.distance_one
