@@ -28,9 +28,8 @@ use Rattle.geometry.proofs.Place.{side_cell, side_on_grid}
 use Rattle.geometry.proofs.Vertex.{inner_strict, inner_grid}
 use Rattle.std.specs.Prelude.{Result, Ok, Err}
 use Rattle.refusals.specs.declared.Refusal.{Refusal}
-use Rattle.refusals.specs.declared.Refusal.TheVariants.{NotAVertex, NotSound}
 use Rattle.geometry.specs.Grid.{sum}
-use Rattle.dual.specs.Dual.{tried_to, no_keys, no_distances, no_places, DualCell, DualSays, NoCell, AroundSays, RefusedSays, TrustingSays, key_in, distance_in, place_in, lookup_at, Around, EntrySays}
+use Rattle.dual.specs.Dual.{tried_to, no_keys, no_distances, no_places, DualCell, DualSays, AroundSays, TrustingSays, key_in, distance_in, place_in, lookup_at, Around, EntrySays}
 
 -- ---- filling
 
@@ -227,14 +226,7 @@ module _ (t : Tree) (S : Sound t) (L v : ℕ) (word : v < 2 ^ 64) (inner : is_in
 
 -- ---- what the calls answer
 
-pub dual_unsound : (t : Tree) (L v : ℕ) (keys : List ℕ) (distances : List Float) (places : List ℕ) (tried : Result ℕ Refusal) → RefusedSays NotSound keys distances places tried
-    → (Sound t → ⊥) → DualSays t L v keys distances places tried
-dual_unsound t L v keys distances places tried r not = rw r.is (r.keys_cleared, r.distances_cleared, r.places_cleared, inl (not, refl))
-
 module _ (ns : Nodes) (ds : List Float) (L v : ℕ) (keys : List ℕ) (distances : List Float) (places : List ℕ) where
-  pub trusting_refused : (tried : Result ℕ Refusal) → RefusedSays NotAVertex keys distances places tried → NoCell ns.keys L v → TrustingSays ns ds L v keys distances places tried
-  trusting_refused tried r why = rw r.is (r.keys_cleared, r.distances_cleared, r.places_cleared, why, refl)
-
   pub trusting_answers : (q : ℕ) (tried : Result ℕ Refusal) → is_inner L v ≡ true → (length ns.keys ≡ 1 → ⊥) → q ≡ v / 2 ^ (63 - L * 3)
       → AroundSays ns ds q keys distances places tried → TrustingSays ns ds L v keys distances places tried
   trusting_answers q (Ok n) inner alone e a =

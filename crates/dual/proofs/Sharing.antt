@@ -9,7 +9,7 @@ use native.Mathlib.Omega.{arith}
 use native.Mathlib.Decide.{ℕ_discrete}
 use borrow.Author.Tests.{leb-true, eqb-true}
 use lib.Dec.{leb, eqb}
-use lib.Bits.{bit_and, and_le_l}
+use lib.Bits.{bit_and}
 use lib.Ieee.{Float, of_bits, binary32}
 use lib.ListN.{length, get_or, set, length-set}
 use lib.Seq.{get_or-set_same, get_or-set_other}
@@ -78,10 +78,6 @@ pub record Told (ns : Nodes) (L q n : ℕ) (levels ends : List ℕ) : Type 0 whe
   pub way : (j : ℕ) → n ≤ j → j < 8 → bit_and j (q % 8) ≡ 0 → NodeSays ns L (8 * (sub q j / 8)) (get_or levels j 0) (get_or ends j 0)
 
 module _ (ns : Nodes) (L q : ℕ) where
-  pub told_none : (levels ends : List ℕ) → length levels ≡ 8 → length ends ≡ 8 → Told ns L q 8 levels ends
-  told_none levels ends l p =
-      record { most = omega arith; on_even = no_eight (q % 8) (omega arith); eight_levels = l; eight_ends = p; way = λ j h g. absurd (omega arith) }
-
   -- the side before n
   module _ (n : ℕ) (levels ends : List ℕ) (t : Told ns L q n levels ends) where
     abbrev before : ℕ
@@ -89,9 +85,6 @@ module _ (ns : Nodes) (L q : ℕ) where
 
     pub before_in : before < 8
     before_in = kept_lt (n - 1) (q % 8) (omega (arith, t.most))
-
-    pub before_less : 0 < n → before < n
-    before_less h = omega (arith, and_le_l (n - 1) (7 - q % 8))
 
     pub told_more : (side l p : ℕ) → side ≡ sub q before → NodeSays ns L (8 * (side / 8)) l p → Told ns L q before (set levels before l) (set ends before p)
     told_more side l p is s =
@@ -164,9 +157,6 @@ inner_ready L v word e = go (ℕ_discrete ((v / 2 ^ (63 - L * 3) * 2 ^ (63 - L *
     go : Dec ((v / 2 ^ (63 - L * 3) * 2 ^ (63 - L * 3)) % 2 ^ 64 ≡ v) → (1 ≤ L) × (L ≤ 20) × (is_inside L (v / 2 ^ (63 - L * 3)) ≡ true)
     go (yes c) = (l.0, l.1, inner_code L v l.0 l.1 word c ∙ e)
     go (no f) = absurd (true≢false (sym e ∙ inner_low L v l.0 l.1 word f))
-
-pub among : (i m : ℕ) → i < 8 → bit_and i m < 8
-among i m h = omega (arith, and_le_l i m)
 
 -- the sides of the child r of c
 module _ (l c r : ℕ) (h : suc l ≤ 20) (hr : r < 8) (e : is_inside (suc l) (8 * c + r) ≡ true) where

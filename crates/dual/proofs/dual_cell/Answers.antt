@@ -1,10 +1,7 @@
 -- `dual_cell` meets its contract. Assumes nothing.
-use Rattle.tree.proofs.Pass.{said, denied}
-use Rattle.dual.proofs.Filling.{dual_unsound, trusting_dual}
+use Rattle.tree.proofs.Pass.{said}
+use Rattle.dual.proofs.Filling.{trusting_dual}
 use Rattle.dual.proofs.dual_cell.Goals as goal
-
-pub returns-then-not-sound : goal.returns-then-not-sound
-returns-then-not-sound c = dual_unsound _ _ _ _ _ _ _ c.refused.ensures (denied c.sound.result _ c.if-not-sound.true c.sound.ensures)
 
 pub returns : goal.returns
 returns c =
