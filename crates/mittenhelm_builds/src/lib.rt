@@ -29,7 +29,7 @@ fn read_state(words: &[u64]) -> State
     }
 }
 
-// Kept: nine words, as they are read.
+// Kept: nine words again: the C interface.
 fn write_state(words: &mut [u64], s: State)
     requires { length words.old ≡ 9 }
     ensures { words.new ≡ words_of s }
