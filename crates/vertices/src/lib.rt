@@ -67,6 +67,7 @@ fn childless(firsts: &[u16], place: usize) -> bool
     if firsts.len() < place + 8 {
         return false;
     }
+    // Kept: no `all`, which would end at the first one that stands.
     let mut any = 0u16;
     for w in 0..8 {
         any |= firsts[place + w];
@@ -100,8 +101,8 @@ fn lower_cell(cell: u64, o: usize) -> u64
     Key { code: cell }.sub(by).code
 }
 
-// Which children of the parent's entries the entries of child q are, eight bits for each of the parent's. As a choice, it is a table that the
-// compiler leaves in read-only memory; a constant array would be built anew for each child.
+// Which children of the parent's entries the entries of child q are, eight bits for each of the parent's.
+// Kept: a choice, of which the compiler makes a table in read-only memory; a constant array would be built anew for each child.
 fn seen_by(q: usize) -> u64
     requires { q < 8 }
     ensures { result ≡ seen_by q }
@@ -143,7 +144,7 @@ fn lower_mask(below: u64, q: usize) -> u64
     out
 }
 
-// Which of the parent's entries the entries of child q lie in: those that are lower on no axis on which q is higher.
+// Which of the parent's entries the entries of child q lie in: those that are lower on no axis on which q is higher. A choice, as `seen_by`.
 fn kept_by(q: usize) -> u64
     requires { q < 8 }
     ensures { result ≡ kept_by q }
@@ -309,11 +310,13 @@ fn gather(nodes: &Nodes, wanted: &Wanted, block: &Block, out: &mut Out, n: usize
         (the_cells out.new) }
 {
     let below = block.split_below(nodes);
+    // By themselves, so that they aren't read anew after each write to the tables.
+    let Cube { level, cell } = block.cube;
     let mut m = n;
     for q in 0..8 {
         let child = Cube {
-            level: block.cube.level + 1,
-            cell: 8 * block.cube.cell + q as u64,
+            level: level + 1,
+            cell: 8 * cell + q as u64,
         };
         if child.skipped(wanted, m) {
             continue;
