@@ -15,7 +15,7 @@ use Rattle.refusals.specs.declared.Refusal.{Refusal}
 use Rattle.refusals.specs.declared.Refusal.TheVariants.{ListFull}
 use Rattle.build.specs.declared.Answer.{Answer}
 use Rattle.build.specs.declared.Answer.TheVariants.{Finished}
-use Rattle.build.specs.Build.{Tables, tables_of, outcome, start_of}
+use Rattle.build.specs.Build.{Tables, outcome, start_of}
 use Rattle.tree.specs.Tree.{Tree, Sound}
 use Rattle.vertices.specs.Listing as listing
 use Rattle.vertices.specs.Listing.{Lists, lists_of, ListSays}
