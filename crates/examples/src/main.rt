@@ -1,38 +1,32 @@
 #![tactic(auto)]
 // Document 01's examples that are run and not proved, a line for each: what is given, and whether it gives what the document says; then what the
 // program `counts` prints for some inputs.
-ghost use Rattle.std.specs.Prelude.{◌≤◌};
+ghost use Rattle.std.specs.Prelude.{◌<◌, ◌≤◌};
 
-use build::Answer;
-use dual::{Dual, Tried};
-use morton::{CentreAnswer, Key, KeyAnswer, SizeAnswer};
-use slabs::SlabsAnswer;
+use build::{Answer, Tables};
+use dual::Dual;
+use morton::Key;
+use refusals::Refusal;
+use slabs::Reach;
 use std::io;
-use tree::Lookup;
-use vertices::ListAnswer;
+use tree::{Lookup, Nodes, Tree};
 
 fn say(rt: &impl Print, example: &[u8], holds: bool) -> io::Result<()> {
     rt.write_all(example)?;
-    if holds {
-        rt.write_all(b": yes\n")
-    } else {
-        rt.write_all(b": NO\n")
-    }
+    rt.write_all(if holds { b": yes\n" } else { b": NO\n" })
 }
 
 fn centre_is(key: u64, x: f32, y: f32, z: f32) -> bool {
-    let answer = Key { code: key }.centre();
-    match answer {
-        CentreAnswer::Is(p) => p.x == x && p.y == y && p.z == z,
-        CentreAnswer::Refused(_) => false,
+    match (Key { code: key }).centre() {
+        Ok(p) => p.x == x && p.y == y && p.z == z,
+        Err(_) => false,
     }
 }
 
 fn half_size_is(key: u64, half: f32) -> bool {
-    let answer = Key { code: key }.half_size();
-    match answer {
-        SizeAnswer::Is(h) => h == half,
-        SizeAnswer::Refused(_) => false,
+    match (Key { code: key }).half_size() {
+        Ok(h) => h == half,
+        Err(_) => false,
     }
 }
 
@@ -49,480 +43,333 @@ struct Field {
     elsewhere: f32,
 }
 
-// 1.0 everywhere.
-fn far() -> Field {
-    Field {
-        key: 1,
-        there: 1.0,
-        elsewhere: 1.0,
+impl Field {
+    // 1.0 everywhere.
+    fn far() -> Field {
+        Field {
+            key: 1,
+            there: 1.0,
+            elsewhere: 1.0,
+        }
+    }
+
+    fn at(self, key: u64) -> f32 {
+        if key == self.key {
+            self.there
+        } else {
+            self.elsewhere
+        }
     }
 }
 
 // The last answer of a build, and how many distances were given for it.
 #[derive(Clone, Copy)]
 struct Trial {
-    answer: Answer,
+    answer: Result<Answer, Refusal>,
     given: u64,
 }
 
-fn distance_at(field: Field, key: u64) -> f32 {
-    if key == field.key {
-        field.there
-    } else {
-        field.elsewhere
-    }
-}
-
-// One distance more where a cell is asked for.
-fn give(
-    t: Trial,
-    field: Field,
-    keys: &mut [u64],
-    distances: &mut [f32],
-    firsts: &mut [u16],
-    leaves: &mut [u64],
-    queue: &mut [u64],
-) -> Trial {
-    let given = t.given;
-    let answer = t.answer;
-    match answer {
-        Answer::Ask(request, state) => {
-            let d = distance_at(field, request.key);
-            let next = build::distance(state, keys, distances, firsts, leaves, queue, d);
-            Trial {
-                answer: next,
-                given: std::num::wrapping_add_u64(given, 1),
-            }
+impl Trial {
+    // A build that has begun over these tables.
+    fn begun(bound: u32, tables: &Tables) -> Trial {
+        Trial {
+            answer: build::start(bound, tables.lengths()),
+            given: 0,
         }
-        Answer::Finished(state) => Trial {
-            answer: Answer::Finished(state),
-            given: given,
-        },
-        Answer::Refused(number) => Trial {
-            answer: Answer::Refused(number),
-            given: given,
-        },
+    }
+
+    // One distance more where a cell is asked for.
+    fn give(self, field: Field, tables: &mut Tables) -> Trial {
+        let Ok(Answer::Ask(request, state)) = self.answer else {
+            return self;
+        };
+        Trial {
+            answer: build::distance(state, tables, field.at(request.key)),
+            given: self.given.wrapping_add(1),
+        }
+    }
+
+    // A finished build was given a distance for each node.
+    fn is_finished(self, nodes: usize, leaves: usize) -> bool {
+        match self.answer {
+            Ok(Answer::Finished(s)) => {
+                s.nodes == nodes && s.leaves == leaves && self.given == nodes as u64
+            }
+            _ => false,
+        }
+    }
+
+    fn is_refused(self, refusal: Refusal, given: u64) -> bool {
+        match self.answer {
+            Ok(_) => false,
+            Err(e) => e == refusal && self.given == given,
+        }
     }
 }
 
 // A build until it is finished or refused, by so many distances at most.
-fn run(
-    bound: u32,
-    field: Field,
-    most: u32,
-    keys: &mut [u64],
-    distances: &mut [f32],
-    firsts: &mut [u16],
-    leaves: &mut [u64],
-    queue: &mut [u64],
-) -> Trial {
-    let mut t = Trial {
-        answer: build::start(bound, keys, distances, firsts, leaves, queue),
-        given: 0,
-    };
+fn run(bound: u32, field: Field, most: u32, tables: &mut Tables) -> Trial {
+    let mut t = Trial::begun(bound, tables);
     for _ in 0..most {
-        t = give(t, field, keys, distances, firsts, leaves, queue);
+        t = t.give(field, tables);
     }
     t
 }
 
 // The same over tables of 100 places and a queue that is given.
 fn built(bound: u32, field: Field, queue: &mut [u64]) -> Trial {
-    let mut keys = [0u64; 100];
-    let mut distances = [0.0f32; 100];
-    let mut firsts = [0u16; 100];
-    let mut leaves = [0u64; 100];
-    run(
-        bound,
-        field,
-        100,
-        &mut keys,
-        &mut distances,
-        &mut firsts,
-        &mut leaves,
+    let mut tables = Tables {
+        keys: &mut [0; 100],
+        distances: &mut [0.0; 100],
+        firsts: &mut [0; 100],
+        leaves: &mut [0; 100],
         queue,
-    )
-}
-
-// A finished build was given a distance for each node.
-fn is_finished(t: Trial, nodes: usize, leaves: usize) -> bool {
-    let answer = t.answer;
-    match answer {
-        Answer::Ask(_, _) => false,
-        Answer::Finished(s) => s.nodes == nodes && s.leaves == leaves && t.given == nodes as u64,
-        Answer::Refused(_) => false,
-    }
-}
-
-fn is_refused(t: Trial, number: u32, given: u64) -> bool {
-    let answer = t.answer;
-    match answer {
-        Answer::Ask(_, _) => false,
-        Answer::Finished(_) => false,
-        Answer::Refused(k) => k == number && t.given == given,
-    }
+    };
+    run(bound, field, 100, &mut tables)
 }
 
 fn finishes(bound: u32, key: u64, there: f32, nodes: usize, leaves: usize) -> bool {
-    let mut queue = [0u64; 100];
-    is_finished(
-        built(
-            bound,
-            Field {
-                key,
-                there,
-                elsewhere: 1.0,
-            },
-            &mut queue,
-        ),
-        nodes,
-        leaves,
-    )
+    let field = Field {
+        key,
+        there,
+        elsewhere: 1.0,
+    };
+    built(bound, field, &mut [0; 100]).is_finished(nodes, leaves)
 }
 
 fn finishes_with_64() -> bool {
-    let mut queue = [0u64; 64];
-    let whole = far();
-    is_finished(built(2, whole, &mut queue), 73, 64)
+    built(2, Field::far(), &mut [0; 64]).is_finished(73, 64)
 }
 
 fn is_refused_with_63() -> bool {
-    let mut queue = [0u64; 63];
-    let whole = far();
-    is_refused(built(2, whole, &mut queue), 8, 9)
+    built(2, Field::far(), &mut [0; 63]).is_refused(Refusal::QueueFull, 9)
 }
 
 // No build has more than 4,096 nodes, however long its tables are: every cell of bound 4 is near, 4,681 in all, and tables of 4,200 are lent.
 fn is_refused_past_4096() -> bool {
-    let mut keys = [0u64; 4200];
-    let mut distances = [0.0f32; 4200];
-    let mut firsts = [0u16; 4200];
-    let mut leaves = [0u64; 4200];
-    let mut queue = [0u64; 4200];
+    let mut tables = Tables {
+        keys: &mut [0; 4200],
+        distances: &mut [0.0; 4200],
+        firsts: &mut [0; 4200],
+        leaves: &mut [0; 4200],
+        queue: &mut [0; 4200],
+    };
     let near = Field {
         key: 1,
         there: 0.0,
         elsewhere: 0.0,
     };
-    let t = run(
-        4,
-        near,
-        5000,
-        &mut keys,
-        &mut distances,
-        &mut firsts,
-        &mut leaves,
-        &mut queue,
-    );
-    is_refused(t, 6, 4097)
+    run(4, near, 5000, &mut tables).is_refused(Refusal::NodesFull, 4097)
 }
 
 // Node room is the shortest of three tables.
 fn is_refused_past_72() -> bool {
-    let mut keys = [0u64; 73];
-    let mut distances = [0.0f32; 73];
-    let mut firsts = [0u16; 72];
-    let mut leaves = [0u64; 64];
-    let mut queue = [0u64; 64];
-    let t = run(
-        2,
-        far(),
-        73,
-        &mut keys,
-        &mut distances,
-        &mut firsts,
-        &mut leaves,
-        &mut queue,
-    );
-    is_refused(t, 6, 73)
+    let mut tables = Tables {
+        keys: &mut [0; 73],
+        distances: &mut [0.0; 73],
+        firsts: &mut [0; 72],
+        leaves: &mut [0; 64],
+        queue: &mut [0; 64],
+    };
+    run(2, Field::far(), 73, &mut tables).is_refused(Refusal::NodesFull, 73)
 }
 
-// A key table, or one of first children, that is shorter than at the start.
-fn is_refused_elsewhere() -> bool {
-    let mut keys = [0u64; 73];
-    let mut distances = [0.0f32; 73];
-    let mut firsts = [0u16; 73];
-    let mut leaves = [0u64; 64];
-    let mut queue = [0u64; 64];
-    let answer = build::start(2, &keys, &distances, &firsts, &leaves, &queue);
-    let t = Trial {
-        answer: answer,
-        given: 0,
+// Whether the first distance is refused of a build that goes on over tables with so many keys and first children, where both were 73 at the start.
+fn is_refused_elsewhere(keys: &mut [u64], firsts: &mut [u16]) -> bool {
+    let begun = Trial::begun(
+        2,
+        &Tables {
+            keys: &mut [0; 73],
+            distances: &mut [0.0; 73],
+            firsts: &mut [0; 73],
+            leaves: &mut [0; 64],
+            queue: &mut [0; 64],
+        },
+    );
+    let mut others = Tables {
+        keys,
+        distances: &mut [0.0; 73],
+        firsts,
+        leaves: &mut [0; 64],
+        queue: &mut [0; 64],
     };
-    let mut fewer_keys = [0u64; 72];
-    let mut fewer_firsts = [0u16; 72];
-    let next = give(
-        t,
-        far(),
-        &mut fewer_keys,
-        &mut distances,
-        &mut firsts,
-        &mut leaves,
-        &mut queue,
-    );
-    let other = give(
-        t,
-        far(),
-        &mut keys,
-        &mut distances,
-        &mut fewer_firsts,
-        &mut leaves,
-        &mut queue,
-    );
-    is_refused(next, 10, 1) && is_refused(other, 10, 1)
+    begun
+        .give(Field::far(), &mut others)
+        .is_refused(Refusal::NotFitting, 1)
 }
 
 // ---- reading a finished tree
 
-fn lists(keys: &[u64], distances: &[f32], firsts: &[u16], leaves: &[u64], count: usize) -> bool {
-    let mut vertices = [0u64; 100];
-    let mut levels = [0u8; 100];
-    let answer = vertices::list(
-        keys,
-        distances,
-        firsts,
-        leaves,
-        0,
-        &mut vertices,
-        &mut levels,
-    );
-    match answer {
-        ListAnswer::Count(n) => n == count,
-        ListAnswer::Refused(_) => false,
+fn lists(tree: &Tree, count: usize) -> bool {
+    vertices::list(tree, 0, &mut [0; 100], &mut [0; 100]) == Ok(count)
+}
+
+// Tables that a build has filled.
+fn filled<'a>(tables: &'a Tables) -> Tree<'a> {
+    Tree {
+        nodes: Nodes {
+            keys: tables.keys,
+            firsts: tables.firsts,
+        },
+        distances: tables.distances,
+        leaves: tables.leaves,
     }
 }
 
 // The same of the tree that a build makes, which fills the tables.
-fn grows(
-    bound: u32,
-    field: Field,
-    keys: &mut [u64],
-    distances: &mut [f32],
-    firsts: &mut [u16],
-    leaves: &mut [u64],
-    count: usize,
-) -> bool {
-    let mut queue = [0u64; 100];
-    let t = run(
-        bound, field, 100, keys, distances, firsts, leaves, &mut queue,
-    );
-    if is_finished(t, keys.len(), leaves.len()) {
-        lists(keys, distances, firsts, leaves, count)
-    } else {
-        false
-    }
+fn grows(bound: u32, field: Field, tables: &mut Tables, count: usize) -> bool {
+    let t = run(bound, field, 100, tables);
+    let tree = filled(tables);
+    t.is_finished(tree.nodes.keys.len(), tree.leaves.len()) && lists(&tree, count)
 }
 
-fn finds(
-    keys: &[u64],
-    distances: &[f32],
-    firsts: &[u16],
-    leaves: &[u64],
-    key: u64,
-    deepest: u64,
-    at: usize,
-    tries: u32,
-) -> bool {
-    let answer = tree::look_up(keys, distances, firsts, leaves, key);
-    match answer {
-        Lookup::Found {
-            key: k,
-            distance: _,
-            place: p,
-            tried: n,
-        } => k == deepest && p == at && n == tries,
-        Lookup::Nothing { tried: _ } => false,
-        Lookup::Refused(_) => false,
+fn finds(tree: &Tree, key: u64, deepest: u64, at: usize, tries: u32) -> bool {
+    match tree.look_up(key) {
+        Ok(
+            Lookup::Found {
+                key: k,
+                distance: _,
+                place: p,
+                tried: n,
+            },
+        ) => k == deepest && p == at && n == tries,
+        _ => false,
     }
 }
 
 // The vertex at corner 7 of a cell of level 3; 0, which is no vertex, where there is none.
 fn far_corner(key: u64) -> u64 {
-    let answer = Key { code: key }.vertex(3, 7);
-    match answer {
-        KeyAnswer::Is(vertex) => vertex.code,
-        KeyAnswer::Refused(_) => 0,
+    match (Key { code: key }).vertex(3, 7) {
+        Ok(vertex) => vertex.code,
+        Err(_) => 0,
     }
-}
-
-fn same_eight(found: [u64; 8], places: [usize; 8], eight: [u64; 8], at: [usize; 8]) -> bool {
-    for i in 0..8 {
-        if found[i] != eight[i] {
-            return false;
-        }
-        if places[i] != at[i] {
-            return false;
-        }
-    }
-    true
 }
 
 // Whether the dual cell of that corner has these nodes, at these places.
-fn meet(
-    keys: &[u64],
-    distances: &[f32],
-    firsts: &[u16],
-    leaves: &[u64],
-    key: u64,
-    eight: [u64; 8],
-    at: [usize; 8],
-    tries: u32,
-) -> bool {
-    let cell = dual::dual_cell(keys, distances, firsts, leaves, far_corner(key), 3);
-    let found = cell.keys;
-    let places = cell.places;
-    let answer = cell.tried;
-    match answer {
-        Tried::Keys(n) => n == tries && same_eight(found, places, eight, at),
-        Tried::Refused(_) => false,
-    }
-}
-
-fn all_zero(eight: [f32; 8]) -> bool {
-    for i in 0..8 {
-        if eight[i] != 0.0 {
-            return false;
-        }
-    }
-    true
+fn meet(tree: &Tree, key: u64, eight: [u64; 8], at: [usize; 8], tries: u32) -> bool {
+    let cell = dual::dual_cell(tree, far_corner(key), 3);
+    cell.tried == Ok(tries) && cell.keys == eight && cell.places == at
 }
 
 // A refused dual cell, which has nothing in its arrays.
-fn is_empty(cell: Dual, number: u32) -> bool {
-    let found = cell.keys;
-    let theirs = cell.distances;
-    let places = cell.places;
-    let answer = cell.tried;
-    match answer {
-        Tried::Keys(_) => false,
-        Tried::Refused(k) => {
-            k == number && same_eight(found, places, [0u64; 8], [0usize; 8]) && all_zero(theirs)
-        }
-    }
+fn is_empty(cell: Dual, refusal: Refusal) -> bool {
+    cell.tried == Err(refusal)
+        && cell.keys == [0; 8]
+        && cell.distances == [0.0; 8]
+        && cell.places == [0; 8]
 }
 
 // The slabs that the cell of the vertex at corner 7 of a cell of level 3 reaches.
-fn reaches(keys: &[u64], firsts: &[u16], key: u64, exponent: u32, low: u32, high: u32) -> bool {
-    let answer = slabs::slabs_trusting(keys, firsts, far_corner(key), 3, exponent);
-    match answer {
-        SlabsAnswer::Reach { first, last } => first == low && last == high,
-        SlabsAnswer::Refused(_) => false,
+fn reaches(nodes: &Nodes, key: u64, exponent: u32, low: u32, high: u32) -> bool {
+    match slabs::slabs_trusting(nodes, far_corner(key), 3, exponent) {
+        Ok(Reach { first, last }) => first == low && last == high,
+        Err(_) => false,
     }
 }
 
-fn say_of_slabs(rt: &impl Print, keys: &[u64], firsts: &[u16]) -> io::Result<()> {
+fn say_of_slabs(rt: &impl Print, nodes: &Nodes) -> io::Result<()> {
     // The centres of its nodes are 1/8, 3/16 and 3/8 high.
     say(
         rt,
         b"that tree, vertex of 519, corner 7, level 3: slabs 1 to 3 of 8, 2 to 6 of 16",
-        reaches(keys, firsts, 519, 3, 1, 3) && reaches(keys, firsts, 519, 4, 2, 6),
+        reaches(nodes, 519, 3, 1, 3) && reaches(nodes, 519, 4, 2, 6),
     )?;
     // At 1 on x, 3 on y and 7 on z, of 8, it lies inside one leaf, whose centre is 7/8 high.
     say(
         rt,
         b"that tree, vertex of 816, corner 7, level 3: slab 7 of 8, 3 of 4",
-        reaches(keys, firsts, 816, 3, 7, 7) && reaches(keys, firsts, 816, 2, 3, 3),
+        reaches(nodes, 816, 3, 7, 7) && reaches(nodes, 816, 2, 3, 3),
     )
 }
 
-fn say_of_tree(
-    rt: &impl Print,
-    keys: &[u64],
-    distances: &[f32],
-    firsts: &[u16],
-    leaves: &[u64],
-) -> io::Result<()> {
-    say(
-        rt,
-        b"that tree is sound",
-        tree::sound(keys, distances, firsts, leaves),
-    )?;
+fn say_of_tree(rt: &impl Print, tree: &Tree) -> io::Result<()> {
+    say(rt, b"that tree is sound", tree.sound())?;
     say(
         rt,
         b"that tree, key 4152: 519 at place 80; 2 tried",
-        finds(keys, distances, firsts, leaves, 4152, 519, 80, 2),
+        finds(tree, 4152, 519, 80, 2),
     )?;
     let outer = [71, 70, 69, 68, 67, 66, 65, 519];
     let outer_at = [16, 15, 14, 13, 12, 11, 10, 80];
     say(
         rt,
         b"that tree, vertex of 519, corner 7, level 3: 71, 70, 69, 68, 67, 66, 65, 519 at 16 down to 10, 80; 15 tried",
-        meet(keys, distances, firsts, leaves, 519, outer, outer_at, 15),
+        meet(tree, 519, outer, outer_at, 15),
     )?;
     let inner = [519, 518, 517, 516, 515, 514, 513, 512];
     let inner_at = [80, 79, 78, 77, 76, 75, 74, 73];
     say(
         rt,
         b"that tree, vertex of 512, corner 7, level 3: 519 down to 512 at 80 down to 73; 8 tried",
-        meet(keys, distances, firsts, leaves, 512, inner, inner_at, 8),
+        meet(tree, 512, inner, inner_at, 8),
     )?;
     say(
         rt,
         b"that tree, 0 for a vertex: 4, and nothing in the arrays",
-        is_empty(dual::dual_cell(keys, distances, firsts, leaves, 0, 3), 4),
+        is_empty(dual::dual_cell(tree, 0, 3), Refusal::NotAVertex),
     )?;
-    say_of_slabs(rt, keys, firsts)
+    say_of_slabs(rt, &tree.nodes)
 }
 
-fn say_of_broken(rt: &impl Print, keys: &[u64], firsts: &[u16], leaves: &[u64]) -> io::Result<()> {
-    let mut last = [1.0f32; 81];
+fn is_sound_with(tree: &Tree, distances: &[f32]) -> bool {
+    Tree { distances, ..*tree }.sound()
+}
+
+fn say_of_broken(rt: &impl Print, tree: &Tree) -> io::Result<()> {
+    let mut last = [1.0; 81];
     last[80] = 1.0 / 0.0;
     say(
         rt,
         b"that tree, infinity at its last node: not sound",
-        !tree::sound(keys, &last, firsts, leaves),
+        !is_sound_with(tree, &last),
     )?;
-    let mut first = [1.0f32; 81];
+    let mut first = [1.0; 81];
     first[0] = 0.0 / 0.0;
     say(
         rt,
         b"that tree, NaN at its root: not sound",
-        !tree::sound(keys, &first, firsts, leaves),
+        !is_sound_with(tree, &first),
     )
 }
 
+fn leads_elsewhere(tree: &Tree, firsts: [u16; 81], place: usize, first: u16) -> bool
+    requires { place < 81 }
+{
+    let mut others = firsts;
+    others[place] = first;
+    let nodes = Nodes {
+        keys: tree.nodes.keys,
+        firsts: &others,
+    };
+    !Tree { nodes, ..*tree }.sound()
+}
+
 // Key 64 is split, at place 9, and the last node is a leaf.
-fn say_of_firsts(
-    rt: &impl Print,
-    keys: &[u64],
-    distances: &[f32],
-    firsts: [u16; 81],
-    leaves: &[u64],
-) -> io::Result<()> {
-    let mut before = firsts;
-    before[9] = 72;
+fn say_of_firsts(rt: &impl Print, tree: &Tree, firsts: [u16; 81]) -> io::Result<()> {
     say(
         rt,
         b"that tree, the first child of 64 at 72 and not 73: not sound",
-        !tree::sound(keys, distances, &before, leaves),
+        leads_elsewhere(tree, firsts, 9, 72),
     )?;
-    let mut below = firsts;
-    below[80] = 1;
     say(
         rt,
         b"that tree, a first child of its last leaf: not sound",
-        !tree::sound(keys, distances, &below, leaves),
+        leads_elsewhere(tree, firsts, 80, 1),
     )
 }
 
 fn say_of_73(rt: &impl Print) -> io::Result<()> {
-    let mut keys = [0u64; 73];
-    let mut distances = [0.0f32; 73];
-    let mut firsts = [0u16; 73];
-    let mut leaves = [0u64; 64];
-    let whole = far();
+    let mut tables = Tables {
+        keys: &mut [0; 73],
+        distances: &mut [0.0; 73],
+        firsts: &mut [0; 73],
+        leaves: &mut [0; 64],
+        queue: &mut [0; 100],
+    };
     say(
         rt,
         b"bound 2, 73 times 1.0: 73 nodes, 64 leaves, 27 vertices",
-        grows(
-            2,
-            whole,
-            &mut keys,
-            &mut distances,
-            &mut firsts,
-            &mut leaves,
-            27,
-        ),
+        grows(2, Field::far(), &mut tables, 27),
     )
 }
 
@@ -531,6 +378,13 @@ fn say_of_81(rt: &impl Print) -> io::Result<()> {
     let mut distances = [0.0f32; 81];
     let mut firsts = [0u16; 81];
     let mut leaves = [0u64; 71];
+    let mut tables = Tables {
+        keys: &mut keys,
+        distances: &mut distances,
+        firsts: &mut firsts,
+        leaves: &mut leaves,
+        queue: &mut [0; 100],
+    };
     let first = Field {
         key: 64,
         there: 0.0,
@@ -539,31 +393,35 @@ fn say_of_81(rt: &impl Print) -> io::Result<()> {
     say(
         rt,
         b"bound 3, 0.0 for key 64, else 1.0: 81 nodes, 71 leaves, 34 vertices",
-        grows(
-            3,
-            first,
-            &mut keys,
-            &mut distances,
-            &mut firsts,
-            &mut leaves,
-            34,
-        ),
+        grows(3, first, &mut tables, 34),
     )?;
-    say_of_tree(rt, &keys, &distances, &firsts, &leaves)?;
+    let other_firsts = firsts;
+    let mut exchanged = leaves;
+    exchanged.swap(0, 1);
+    let tree = Tree {
+        nodes: Nodes {
+            keys: &keys,
+            firsts: &firsts,
+        },
+        distances: &distances,
+        leaves: &leaves,
+    };
+    say_of_tree(rt, &tree)?;
     say(
         rt,
         b"that tree, one distance too many: not sound",
-        !tree::sound(&keys, &[0.0f32; 82], &firsts, &leaves),
+        !is_sound_with(&tree, &[0.0; 82]),
     )?;
-    say_of_broken(rt, &keys, &firsts, &leaves)?;
-    say_of_firsts(rt, &keys, &distances, firsts, &leaves)?;
-    let least = leaves[0];
-    leaves[0] = leaves[1];
-    leaves[1] = least;
+    say_of_broken(rt, &tree)?;
+    say_of_firsts(rt, &tree, other_firsts)?;
     say(
         rt,
         b"that tree, two leaves exchanged: not sound",
-        !tree::sound(&keys, &distances, &firsts, &leaves),
+        !Tree {
+            leaves: &exchanged,
+            ..tree
+        }
+        .sound(),
     )
 }
 
@@ -580,33 +438,19 @@ struct Given {
     other: [u8; 4],
 }
 
-fn is_zero(given: Given, place: usize) -> bool {
-    if place < given.first {
-        return false;
+impl Given {
+    fn is_zero(self, place: usize) -> bool {
+        self.first <= place && place < self.end && (!self.fifth || (place - self.first) % 5 == 0)
     }
-    if given.end <= place {
-        return false;
-    }
-    if given.fifth {
-        return (place - given.first) % 5 == 0;
-    }
-    true
-}
 
-fn byte_of(given: Given, i: usize) -> u8 {
-    if i == 0 {
-        return given.bound;
-    }
-    if is_zero(given, (i - 1) / 4) {
-        return 0;
-    }
-    let other = given.other;
-    other[(i - 1) % 4]
-}
-
-fn fill(given: Given, input: &mut [u8]) {
-    for i in 0..input.len() {
-        input[i] = byte_of(given, i);
+    fn byte_at(self, i: usize) -> u8 {
+        if i == 0 {
+            return self.bound;
+        }
+        if self.is_zero((i - 1) / 4) {
+            return 0;
+        }
+        self.other[(i - 1) % 4]
     }
 }
 
@@ -615,7 +459,9 @@ fn show(rt: &impl Print, example: &[u8], given: Given, length: usize) -> io::Res
     requires { length ≤ 4200 }
 {
     let mut input = [0u8; 4200];
-    fill(given, &mut input);
+    for (i, byte) in input.iter_mut().enumerate() {
+        *byte = given.byte_at(i);
+    }
     let text = counting::line(&input[..length]);
     rt.write_all(example)?;
     rt.write_all(b": ")?;
@@ -625,9 +471,9 @@ fn show(rt: &impl Print, example: &[u8], given: Given, length: usize) -> io::Res
 // 1.0 but for zeros from one place to before another.
 fn zeros(bound: u8, first: usize, end: usize) -> Given {
     Given {
-        bound: bound,
-        first: first,
-        end: end,
+        bound,
+        first,
+        end,
         fifth: false,
         other: [0, 0, 0x80, 0x3f],
     }
@@ -641,7 +487,7 @@ fn fifths(end: usize) -> Given {
     Given {
         bound: 15,
         first: 9,
-        end: end,
+        end,
         fifth: true,
         other: [0, 0, 0x80, 0x3f],
     }
@@ -694,7 +540,7 @@ fn then(other: [u8; 4]) -> Given {
         first: 0,
         end: 9,
         fifth: false,
-        other: other,
+        other,
     }
 }
 
@@ -797,7 +643,8 @@ fn main(rt: HostRuntime) -> io::Result<()> {
     say(
         &rt,
         b"bound 2, the key table or that of first children shorter than at the start: 10 at the first distance",
-        is_refused_elsewhere(),
+        is_refused_elsewhere(&mut [0; 72], &mut [0; 73])
+            && is_refused_elsewhere(&mut [0; 73], &mut [0; 72]),
     )?;
     say(
         &rt,
