@@ -57,7 +57,8 @@ module _ (t : Tree) where
       (c.dual.entry o h).present
 
   -- and any dual cell of the same vertex and level has the same entries
-  pub same_entry : (j : ℕ) (c : CellAt j) {L v : ℕ} {keys : List ℕ} {distances : List Float} {those : List ℕ} {tried : ℕ} → get_or levels j 0 ≡ L → get_or vertices j 0 ≡ v
+  pub same_entry : (j : ℕ) (c : CellAt j) {L v : ℕ} {keys : List ℕ} {distances : List Float} {those : List ℕ} {tried : ℕ}
+      → get_or levels j 0 ≡ L → get_or vertices j 0 ≡ v
       → DualCell t L v keys distances those tried → (o : ℕ) → o < 8 → get_or c.keys o 0 ≡ get_or keys o 0
   same_entry j c {L} {v} {keys} {distances} {those} {tried} l e d o h =
       deepest_key t (side_of (get_or levels j 0) (get_or vertices j 0) o) (c.dual.entry o h)

@@ -208,7 +208,8 @@ module _ (a b k : ℕ) where
 
 module _ (firsts lasts : List ℕ) where
   balance : (k m : ℕ)
-      → how_many (needed_at firsts lasts k) m + how_many (ends_at firsts lasts k) m ≡ how_many (lately firsts lasts k) m + how_many (starts_at firsts lasts k) m
+      → how_many (needed_at firsts lasts k) m + how_many (ends_at firsts lasts k) m
+      ≡ how_many (lately firsts lasts k) m + how_many (starts_at firsts lasts k) m
   unfolding how_many
   balance k zero = refl
   balance k (suc m) = omega (arith, balance k m, one_leaf (get_or firsts m 0) (get_or lasts m 0) k)
@@ -339,6 +340,7 @@ count_one {s} {firsts} {lasts} {c} {c'} {m} {m'} p q = (e, greatest_one (rw e at
         (λ i h. p.each i (omega (arith, p.as_many)) ∙ sym (q.each i (omega (arith, p.as_many))))
 
 -- the whole report
-pub report_left : (n : Nodes) (s : ℕ) (first last needed needed' : List ℕ) (r : ℕ) → length needed ≡ 2 ^ s → SpansLeft n s first last → Counted first last needed needed' r
+pub report_left : (n : Nodes) (s : ℕ) (first last needed needed' : List ℕ) (r : ℕ)
+    → length needed ≡ 2 ^ s → SpansLeft n s first last → Counted first last needed needed' r
     → ReportLeft n s first last needed' r
 report_left n s first last needed needed' r e S C = record { spans = S.spans; counts = counted_counts e C }

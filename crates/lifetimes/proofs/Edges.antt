@@ -65,7 +65,8 @@ module _ (fs : List ℕ) (nodes : ℕ) (first places : List ℕ) (at : ℕ) wher
     still y m = record { o = m.o; o_inside = omega (arith, m.o_inside); leaf = m.leaf; here = m.here; slab_is = m.slab_is }
 
     -- a later one is the new one
-    before_or_new : (y : ℕ) (m : Meets fs nodes first places at (n + 1) y) → Meets fs nodes first places at n y ⊎ LeafAt fs nodes (get_or places (8 * at + n) 0) m.leaf
+    before_or_new : (y : ℕ) (m : Meets fs nodes first places at (n + 1) y)
+        → Meets fs nodes first places at n y ⊎ LeafAt fs nodes (get_or places (8 * at + n) 0) m.leaf
     before_or_new y m = ⊎_elim
         (λ c. inr (subst (λ (o : ℕ). LeafAt fs nodes (get_or places (8 * at + o) 0) m.leaf) c m.here))
         (λ d. inl (record { o = m.o; o_inside = omega (arith, m.o_inside); leaf = m.leaf; here = m.here; slab_is = m.slab_is }))
@@ -116,7 +117,8 @@ module _ (fs : List ℕ) (nodes : ℕ) (first places : List ℕ) (at : ℕ) wher
 module _ (numbers : List ℕ) (low high : ℕ) (first₀ last₀ : List ℕ) where
   module _ (n : ℕ) (first last first' last' : List ℕ) (W : Widened numbers n low high first₀ last₀ first last)
       (P : PullSays low high (get_or numbers n 0) first last first' last') where
-    again : (i : ℕ) → Pulled low high (get_or first₀ i 0) (get_or last₀ i 0) (get_or first i 0) (get_or last i 0) → Pulled low high (get_or first i 0) (get_or last i 0) (get_or first' i 0) (get_or last' i 0)
+    again : (i : ℕ) → Pulled low high (get_or first₀ i 0) (get_or last₀ i 0) (get_or first i 0) (get_or last i 0)
+        → Pulled low high (get_or first i 0) (get_or last i 0) (get_or first' i 0) (get_or last' i 0)
         → Pulled low high (get_or first₀ i 0) (get_or last₀ i 0) (get_or first' i 0) (get_or last' i 0)
     again i a b = record {
       first_upper = b.first_upper ∙ a.first_upper;
@@ -142,7 +144,9 @@ module _ (numbers : List ℕ) (low high : ℕ) (first₀ last₀ : List ℕ) whe
 
     hit : (i : ℕ) → i < length first₀ → get_or numbers n 0 ≡ i → Both i
     hit i h c =
-        let p = subst (λ (i : ℕ). i < length first → Pulled low high (get_or first i 0) (get_or last i 0) (get_or first' i 0) (get_or last' i 0)) c P.2 (omega (arith, W.first_long)) in
+        let p =
+        subst (λ (i : ℕ). i < length first → Pulled low high (get_or first i 0) (get_or last i 0) (get_or first' i 0) (get_or last' i 0)) c P.2
+        (omega (arith, W.first_long)) in
         inl (
           record { o = n; o_inside = omega arith; here = c },
           ⊎_elim (λ a. again i a.1 p)

@@ -46,7 +46,8 @@ module _ {ns : Nodes} {nodes : ℕ} {first₀ last₀ first last : List ℕ} {fr
     widens_on : Widens ns.firsts nodes (places_of ns (g.past ++ take (room_of was) g.ahead)) first₀ last₀ first' last'
     widens_on =
         subst (λ (xs : List ℕ). Widens ns.firsts nodes xs first₀ last₀ first' last')
-        (ap (λ (xs : List ℕ). places_of ns g.past ++ xs) (came_places ns from g.past g.ahead g.gone was left n says) ∙ sym (places_append ns g.past (take (room_of was) g.ahead)))
+        (ap (λ (xs : List ℕ). places_of ns g.past ++ xs) (came_places ns from g.past g.ahead g.gone was left n says)
+        ∙ sym (places_append ns g.past (take (room_of was) g.ahead)))
         (widens_then ns.firsts nodes (places_of ns g.past) (length g.past) (take (8 * n) left.places) first₀ last₀ first last first' last'
         (places_length ns g.past) g.widens W)
 

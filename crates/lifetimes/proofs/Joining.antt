@@ -56,14 +56,16 @@ cell_of t S s small j h c k m =
     )
 
 -- a cell whose slabs are told is a dual cell that reaches them
-reaching : (t : Tree) (L v s first last : ℕ) {keys : List ℕ} {distances : List Float} {those : List ℕ} (a : Result ℕ Refusal) → DualSays t L v keys distances those a → OfCell a keys s (reach first last)
+reaching : (t : Tree) (L v s first last : ℕ) {keys : List ℕ} {distances : List Float} {those : List ℕ} (a : Result ℕ Refusal)
+    → DualSays t L v keys distances those a → OfCell a keys s (reach first last)
     → ((n : ℕ) × DualCell t L v keys distances those n) × Reaches keys s first last
 reaching t L v s first last (Ok n) (_, _, _, c) (_, r) = ((n, c), r)
 reaching t L v s first last (Err k) p e = absurd (cc)
 
 module _ (t : Tree) (S : Sound t) (short : (i : ℕ) → i < length t.firsts → get_or t.firsts i 0 < 2 ^ 16) (s : ℕ) where
   -- leaf i is entry o of a cell: entry q shares that cell
-  sharing : (j : ℕ) → j < length (vertices t) → (c : CellAt t j) (i o q : ℕ) → i < length t.leaves → o < 8 → q < 8 → get_or c.keys o 0 ≡ get_or t.leaves i 0
+  sharing : (j : ℕ) → j < length (vertices t) → (c : CellAt t j) (i o q : ℕ)
+      → i < length t.leaves → o < 8 → q < 8 → get_or c.keys o 0 ≡ get_or t.leaves i 0
       → Sharing (nodes t) s i (slab_of s (get_or c.keys q 0))
   sharing j h c i o q l a b e =
       let m : In (get_or c.keys q 0) t.leaves = node_leaf t S j h c q b in
@@ -175,7 +177,8 @@ module _ (t : Tree) (S : Sound t) (short : (i : ℕ) → i < length t.firsts →
         each = λ i h. span i h small (a.each i (omega (arith, all_leaves t S short)));
       }
 
-pub trusting_lifetimes : (t : Tree) → Sound t → ((i : ℕ) → i < length t.firsts → get_or t.firsts i 0 < 2 ^ 16) → (s : ℕ) (was left : Reports) (r : Result ℕ Refusal)
+pub trusting_lifetimes : (t : Tree) → Sound t → ((i : ℕ) → i < length t.firsts → get_or t.firsts i 0 < 2 ^ 16)
+    → (s : ℕ) (was left : Reports) (r : Result ℕ Refusal)
     → TrustingSays (nodes t) s was left r → LifetimesSays t s was left r
 trusting_lifetimes t S short s was left (Ok most) (small, room, a) = (
   S,

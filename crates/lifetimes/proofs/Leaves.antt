@@ -47,7 +47,8 @@ module _ (t : Tree) (S : Sound t) where
           let top : get_or t.keys i 0 < 8 ^ limit =
           ⊎_elim (λ g. g) (λ g. absurd (not_too_deep {d = t.distances} W S s g)) (order (get_or t.keys i 0) (8 ^ limit)) in (
             c + 8,
-            subst₂ (λ (j m : ℕ). Walked t.keys t.leaves t.firsts j (c + 8) m) one (sym (ap (number_of t.firsts) (sym one) ∙ number_other t.firsts i (not_first i h (c, W) s)))
+            subst₂ (λ (j m : ℕ). Walked t.keys t.leaves t.firsts j (c + 8) m) one
+                (sym (ap (number_of t.firsts) (sym one) ∙ number_other t.firsts i (not_first i h (c, W) s)))
                 (after_split W l top (all_eight {d = t.distances} W S l s) (first_here {d = t.distances} W S l s)),
           )
 

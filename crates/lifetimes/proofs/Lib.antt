@@ -1,5 +1,6 @@
 -- The laws behind `lifetimes`.
 pub mod HowMany
+pub mod Same
 pub mod Numbers
 pub mod Edges
 pub mod Spanning

@@ -68,7 +68,8 @@ module _ (s m : ℕ) (was : Reports) where
   not_why h room (inl a) = omega (arith, a.0)
   not_why h room (inr a) = a.1 room
 
-refused_one : {was left right : Reports} {j k : Refusal} → left ≡ was → right ≡ was → j ≡ k → ◌≡◌ {A = Reports × Result ℕ Refusal} (left, Err j) (right, Err k)
+refused_one : {was left right : Reports} {j k : Refusal}
+    → left ≡ was → right ≡ was → j ≡ k → ◌≡◌ {A = Reports × Result ℕ Refusal} (left, Err j) (right, Err k)
 refused_one a b e = λ i. ((a ∙ sym b) i, Err (e i))
 
 -- ---- of a tree that is trusted

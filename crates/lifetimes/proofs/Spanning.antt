@@ -127,7 +127,8 @@ module _ (fs : List ℕ) (nodes : ℕ) (slab : ℕ → ℕ) (seen places : List 
       }
 
       pub pulled_edge : {so : ℕ → ℕ → Type 0} {pick : ℕ → ℕ → ℕ} {start : ℕ} → Picking so pick → (x bound z : ℕ) → z ≡ pick x bound
-          → Edge so start (Beside fs nodes slab seen i) x → Edge so start (Meets fs nodes first places at 8) bound → Edge so start (Beside fs nodes slab all i) z
+          → Edge so start (Beside fs nodes slab seen i) x → Edge so start (Meets fs nodes first places at 8) bound
+          → Edge so start (Beside fs nodes slab all i) z
       pulled_edge w x bound z e =
           edge_pick w x bound z e
           (λ y c. ⊎_elim (old i y) (λ m. new i y (met y m)) c)

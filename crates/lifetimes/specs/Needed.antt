@@ -60,7 +60,8 @@ pub record Spans (t : Tree) (s : ℕ) (firsts lasts : List ℕ) : Type 0 where
   pub as_many_firsts : length firsts ≡ length t.leaves
   pub as_many_lasts : length lasts ≡ length t.leaves
   pub each : (i : ℕ) → i < length t.leaves
-      → SpanOf t s (slice_index t.leaves i) (slice_index firsts i) (slice_index lasts i) ⊎ Never t s (slice_index t.leaves i) (slice_index firsts i) (slice_index lasts i)
+      → SpanOf t s (slice_index t.leaves i) (slice_index firsts i) (slice_index lasts i)
+      ⊎ Never t s (slice_index t.leaves i) (slice_index firsts i) (slice_index lasts i)
 
 -- ---- how many are needed
 

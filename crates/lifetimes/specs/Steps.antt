@@ -3,6 +3,7 @@
 use Rattle.std.specs.Prelude.{◌≡◌, ℕ, zero, suc, ◌+◌, ◌-◌, ◌*◌, ◌/◌, ◌%◌, ◌^◌, ◌<◌, ◌≤◌, min, max, Bool, ◌&&◌, ◌⊎◌, List, [], ◌++◌, length, ◌==◌, ◌≢◌, nat_le, slice_index, slice_index_or, slice_set}
 use Rattle.tree.specs.Down.{Nodes}
 use Rattle.slabs.specs.Heights.{slab_of}
+use Rattle.lifetimes.specs.declared.Halves.{Halves}
 use Rattle.lifetimes.specs.Needed.{how_many, count_at, Counts}
 use Rattle.lifetimes.specs.Trusted.{nodes_in, leaves_of, number_of, LeafAt, Beside, TrustedSpans}
 
@@ -120,6 +121,19 @@ pub record Widens (firsts : List ℕ) (nodes : ℕ) (more first last first' last
   pub ready : Ready firsts nodes first' last'
   pub spans : (slab : ℕ → ℕ) (places : List ℕ) (cells : ℕ) → length places ≡ 8 * cells → Spanned firsts nodes slab places first last
       → Spanned firsts nodes slab (places ++ more) first' last'
+
+-- The same of the tables as the code has them: they are still for the same nodes, and lent by the same callers.
+abbrev pub ReadyHalves : Halves → Type 0
+ReadyHalves h = Ready h.nodes.firsts.now h.many h.first.now h.last.now
+
+abbrev pub WidensHalves : List ℕ → Halves → Halves → Type 0
+WidensHalves more was left = Widens was.nodes.firsts.now was.many more was.first.now was.last.now left.first.now left.last.now
+
+pub record SameHalves (was left : Halves) : Type 0 where
+  pub nodes : left.nodes ≡ was.nodes
+  pub many : left.many ≡ was.many
+  pub first : left.first.ghost_name ≡ was.first.ghost_name
+  pub last : left.last.ghost_name ≡ was.last.ghost_name
 
 -- The slab of the key that stands at a place.
 abbrev pub own_slab : Nodes → ℕ → ℕ → ℕ

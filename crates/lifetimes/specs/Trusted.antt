@@ -62,7 +62,8 @@ pub record Alone (n : Nodes) (s i first last : ℕ) : Type 0 where
 pub record TrustedSpans (n : Nodes) (s : ℕ) (firsts lasts : List ℕ) : Type 0 where
   pub as_many_firsts : length firsts ≡ leaves_of (nodes_in n)
   pub as_many_lasts : length lasts ≡ leaves_of (nodes_in n)
-  pub each : (i : ℕ) → i < leaves_of (nodes_in n) → Shared n s i (slice_index firsts i) (slice_index lasts i) ⊎ Alone n s i (slice_index firsts i) (slice_index lasts i)
+  pub each : (i : ℕ) → i < leaves_of (nodes_in n)
+      → Shared n s i (slice_index firsts i) (slice_index lasts i) ⊎ Alone n s i (slice_index firsts i) (slice_index lasts i)
 
 pub record TrustedReport (n : Nodes) (s : ℕ) (was left : Reports) (most : ℕ) : Type 0 where
   pub firsts : List ℕ

@@ -8,7 +8,7 @@ ghost use Rattle.vertices.specs.Walk.{spots_of};
 ghost use Rattle.vertices.specs.Cells.{places_of};
 ghost use Rattle.lifetimes.specs.Needed.{Room, reports_of, LifetimesSays};
 ghost use Rattle.lifetimes.specs.Trusted.{nodes_in, leaves_of, TrustingSays};
-ghost use Rattle.lifetimes.specs.Steps.{PutLeaf, Numbered, Ready, Finds, MeetingSays, PullSays, Widened, Widens, Prepared, AllUnpacked, Within, SpansLeft, Differs, SumsUp, most_in, Counted, ReportLeft};
+ghost use Rattle.lifetimes.specs.Steps.{PutLeaf, Numbered, ReadyHalves, SameHalves, WidensHalves, Finds, MeetingSays, PullSays, Widened, Prepared, AllUnpacked, Within, SpansLeft, Differs, SumsUp, most_in, Counted, ReportLeft};
 
 use refusals::Refusal;
 use tree::{Nodes, Tree};
@@ -29,9 +29,6 @@ fn leaves_of(nodes: usize) -> usize
 
 // ---- the leaves' numbers and slabs
 
-// While the cells are gone over, the upper halves of both tables are for finding leaves: place i of `first` has the slab of leaf i there, and `last` the number of
-// the leaf at each place, in one slot fewer for each eight places: of 8j + 7 and 8j + 8 the first's number is the second's less one, if both are leaves.
-
 // Takes down the slab of the next leaf, with no least slab so far, and counts it; no further than one past the last place.
 fn put_leaf(first: &mut [u32], number: usize, slab: u32) -> usize
     requires { (number ≤ length first.old + 1) × (slab < 2 ^ 15) }
@@ -43,141 +40,156 @@ fn put_leaf(first: &mut [u32], number: usize, slab: u32) -> usize
     (number + 1).min(first.len() + 1)
 }
 
-// Takes down the number of each leaf and its slab.
-fn number_leaves(nodes: &Nodes, many: usize, exponent: u32, first: &mut [u32], last: &mut [u32])
-    requires many_value { (many ≡ nodes_in (the_nodes nodes.now)) × (exponent ≤ limit) }
-    requires first_value { (first.old ≡ replicate (leaves_of many) 65535) × (last.old ≡ replicate (leaves_of many) 0) }
-    ensures { Prepared (the_nodes nodes.now) exponent first.new last.new }
-{
-    let mut number: usize = 0;
-    for place in 0..many {
-        last[place - place / 8] = 65536 * (number + place % 8 / 7) as u32;
-        if nodes.first_at(place) == 0 {
-            number = put_leaf(first, number, slabs::slab_at(nodes.keys[place], exponent));
-        }
-    }
-}
-
-// The number of the leaf at a place, or the number of leaves or more where there is none.
-fn number_at(nodes: &Nodes, many: usize, last: &[u32], place: usize) -> usize
-    requires { (length last.now ≡ leaves_of many) × Numbered nodes.now.firsts.now many last.now }
-    ensures { Finds nodes.now.firsts.now many place result }
-{
-    if place >= many {
-        return last.len();
-    }
-    if nodes.first_at(place) != 0 {
-        return last.len();
-    }
-    (last[place - place / 8] / 65536) as usize - place % 8 / 7
-}
-
-// ---- the cells
-
-// Which leaves a cell has, whose eight places stand in a table, and from which slab to which they lie.
-fn leaves_of_cell(
-    nodes: &Nodes,
+// Both tables of slabs with the nodes whose leaves they are for, so many as are looked at. While the cells are gone over, the upper halves are for finding leaves: place i
+// of `first` has the slab of leaf i there, and `last` the number of the leaf at each place, in one slot fewer for each eight places: of 8j + 7 and 8j + 8 the first's
+// number is the second's less one, if both are leaves.
+#[derive(Drop)]
+struct Halves<'a> {
+    nodes: Nodes<'a>,
     many: usize,
-    first: &[u32],
-    last: &[u32],
-    places: &[usize],
-    at: usize,
-) -> Meeting
-    requires ready { Ready nodes.now.firsts.now many first.now last.now }
-    requires at_in_bounds { 8 * at + 8 ≤ length places.now }
-    ensures { MeetingSays nodes.now.firsts.now many first.now places.now at 8 result.numbers result.low result.high }
-{
-    let mut numbers = [0usize; 8];
-    let mut low: u32 = 65535;
-    let mut high: u32 = 0;
-    for o in 0..8 {
-        let number = number_at(nodes, many, last, places[8 * at + o]);
-        numbers[o] = number;
-        if number < first.len() {
-            let slab = first[number] / 65536;
-            low = low.min(slab);
-            high = high.max(slab);
+    first: &'a mut [u32],
+    last: &'a mut [u32],
+}
+
+impl Halves<'_> {
+    // Takes down the number of each leaf and its slab.
+    fn number_leaves(&mut self, exponent: u32)
+        requires many_value { (self.old.many ≡ nodes_in (the_nodes self.old.nodes)) × (exponent ≤ limit) }
+        requires first_value { (self.old.first.now ≡ replicate (leaves_of self.old.many) 65535)
+            × (self.old.last.now ≡ replicate (leaves_of self.old.many) 0) }
+        ensures same { SameHalves self.old self.new }
+        ensures prepared { Prepared (the_nodes self.old.nodes) exponent self.new.first.now self.new.last.now }
+    {
+        let nodes = self.nodes;
+        let mut number: usize = 0;
+        for place in 0..self.many {
+            self.last[place - place / 8] = 65536 * (number + place % 8 / 7) as u32;
+            if nodes.first_at(place) == 0 {
+                let slab = slabs::slab_at(nodes.keys[place], exponent);
+                number = put_leaf(self.first, number, slab);
+            }
         }
     }
-    Meeting { numbers, low, high }
-}
 
-// Pulls the span of a leaf apart, if it is one.
-fn pull(first: &mut [u32], last: &mut [u32], number: usize, low: u32, high: u32)
-    requires { (length first.old ≡ length last.old) × (low ≤ 65535) × (high ≤ 65535) }
-    ensures { PullSays low high number first.old last.old first.new last.new }
-{
-    if number < first.len() {
-        let a = first[number];
-        first[number] = a - a % 65536 + (a % 65536).min(low);
-        let b = last[number];
-        last[number] = b - b % 65536 + (b % 65536).max(high);
-    }
-}
-
-// The same for each leaf of a cell.
-fn pull_all(first: &mut [u32], last: &mut [u32], cell: Meeting)
-    requires { (length first.old ≡ length last.old) × (cell.low ≤ 65535) × (cell.high ≤ 65535) }
-    ensures { Widened cell.numbers 8 cell.low cell.high first.old last.old first.new last.new }
-{
-    for number in cell.numbers {
-        pull(first, last, number, cell.low, cell.high);
-    }
-}
-
-// Goes over some cells, whose eight places each stand in a table.
-fn widen(
-    nodes: &Nodes,
-    many: usize,
-    first: &mut [u32],
-    last: &mut [u32],
-    places: &[usize],
-    cells: usize,
-)
-    requires ready { Ready nodes.now.firsts.now many first.old last.old }
-    requires cells_in_bounds { 8 * cells ≤ length places.now }
-    ensures { Widens nodes.now.firsts.now many (take (8 * cells) places.now) first.old last.old first.new last.new }
-{
-    for at in 0..cells {
-        let cell = leaves_of_cell(nodes, many, first, last, places, at);
-        pull_all(first, last, cell);
-    }
-}
-
-// Goes over the cells of all vertices, 64 at a time: so many that beginning anew at the root costs little, and so few that they fit on the stack.
-fn go_over(nodes: &Nodes, many: usize, first: &mut [u32], last: &mut [u32])
-    requires { Ready nodes.now.firsts.now many first.old last.old }
-    ensures { Widens nodes.now.firsts.now many (places_of (the_nodes nodes.now) (spots_of (the_nodes nodes.now)))
-        first.old last.old first.new last.new }
-{
-    let mut vertices = [0u64; 64];
-    let mut levels = [0u8; 64];
-    let mut places = [0usize; 512];
-    let mut from: u64 = 0;
-    loop {
-        let came = vertices::cells_trusting(nodes, from, &mut vertices, &mut levels, &mut places);
-        widen(nodes, many, first, last, &places, came);
-        if came < 64 {
-            return;
+    // The number of the leaf at a place, or the number of leaves or more where there is none.
+    fn number_at(&self, place: usize) -> usize
+        requires { (length self.now.last.now ≡ leaves_of self.now.many)
+            × Numbered self.now.nodes.firsts.now self.now.many self.now.last.now }
+        ensures { Finds self.now.nodes.firsts.now self.now.many place result }
+    {
+        if place >= self.many {
+            return self.last.len();
         }
-        from = vertices[63] + 1;
+        if self.nodes.first_at(place) != 0 {
+            return self.last.len();
+        }
+        (self.last[place - place / 8] / 65536) as usize - place % 8 / 7
     }
-}
 
-// First and last slab of each leaf, from the halves.
-fn unpack(first: &mut [u32], last: &mut [u32])
-    requires { length first.old ≡ length last.old }
-    ensures { AllUnpacked first.old last.old first.new last.new }
-{
-    for i in 0..first.len() {
-        let a = first[i] % 65536;
-        let b = last[i] % 65536;
-        if b < a {
-            first[i] = 1;
-            last[i] = 0;
-        } else {
-            first[i] = a;
-            last[i] = b;
+    // ---- the cells
+
+    // Which leaves a cell has, whose eight places stand in a table, and from which slab to which they lie.
+    fn leaves_of_cell(&self, places: &[usize], at: usize) -> Meeting
+        requires ready { ReadyHalves self.now }
+        requires at_in_bounds { 8 * at + 8 ≤ length places.now }
+        ensures { MeetingSays self.now.nodes.firsts.now self.now.many self.now.first.now places.now at 8 result.numbers result.low result.high }
+    {
+        let mut numbers = [0usize; 8];
+        let mut low: u32 = 65535;
+        let mut high: u32 = 0;
+        for o in 0..8 {
+            let number = self.number_at(places[8 * at + o]);
+            numbers[o] = number;
+            if number < self.first.len() {
+                let slab = self.first[number] / 65536;
+                low = low.min(slab);
+                high = high.max(slab);
+            }
+        }
+        Meeting { numbers, low, high }
+    }
+
+    // Pulls the span of a leaf apart, if it is one.
+    fn pull(&mut self, number: usize, low: u32, high: u32)
+        requires { (length self.old.first.now ≡ length self.old.last.now) × (low ≤ 65535) × (high ≤ 65535) }
+        ensures same { SameHalves self.old self.new }
+        ensures pulled { PullSays low high number self.old.first.now self.old.last.now self.new.first.now self.new.last.now }
+    {
+        if number < self.first.len() {
+            let a = self.first[number];
+            self.first[number] = a - a % 65536 + (a % 65536).min(low);
+            let b = self.last[number];
+            self.last[number] = b - b % 65536 + (b % 65536).max(high);
+        }
+    }
+
+    // The same for each leaf of a cell.
+    fn pull_all(&mut self, cell: Meeting)
+        requires { (length self.old.first.now ≡ length self.old.last.now) × (cell.low ≤ 65535) × (cell.high ≤ 65535) }
+        ensures same { SameHalves self.old self.new }
+        ensures widened { Widened cell.numbers 8 cell.low cell.high self.old.first.now self.old.last.now self.new.first.now self.new.last.now }
+    {
+        for number in cell.numbers {
+            self.pull(number, cell.low, cell.high);
+        }
+    }
+
+    // Goes over some cells, whose eight places each stand in a table.
+    fn widen(&mut self, places: &[usize], cells: usize)
+        requires ready { ReadyHalves self.old }
+        requires cells_in_bounds { 8 * cells ≤ length places.now }
+        ensures same { SameHalves self.old self.new }
+        ensures widens { WidensHalves (take (8 * cells) places.now) self.old self.new }
+    {
+        for at in 0..cells {
+            let cell = self.leaves_of_cell(places, at);
+            self.pull_all(cell);
+        }
+    }
+
+    // Goes over the cells of all vertices, 64 at a time: so many that beginning anew at the root costs little, and so few that they fit on the stack.
+    fn go_over(&mut self)
+        requires { ReadyHalves self.old }
+        ensures same { SameHalves self.old self.new }
+        ensures widens { WidensHalves (places_of (the_nodes self.old.nodes) (spots_of (the_nodes self.old.nodes))) self.old self.new }
+    {
+        let nodes = self.nodes;
+        let mut vertices = [0u64; 64];
+        let mut levels = [0u8; 64];
+        let mut places = [0usize; 512];
+        let mut from: u64 = 0;
+        loop {
+            let came = vertices::cells_trusting(
+                &nodes,
+                from,
+                &mut vertices,
+                &mut levels,
+                &mut places,
+            );
+            self.widen(&places, came);
+            if came < 64 {
+                return;
+            }
+            from = vertices[63] + 1;
+        }
+    }
+
+    // First and last slab of each leaf, from the halves.
+    fn unpack(&mut self)
+        requires { length self.old.first.now ≡ length self.old.last.now }
+        ensures same { SameHalves self.old self.new }
+        ensures unpacked { AllUnpacked self.old.first.now self.old.last.now self.new.first.now self.new.last.now }
+    {
+        for i in 0..self.first.len() {
+            let a = self.first[i] % 65536;
+            let b = self.last[i] % 65536;
+            if b < a {
+                self.first[i] = 1;
+                self.last[i] = 0;
+            } else {
+                self.first[i] = a;
+                self.last[i] = b;
+            }
         }
     }
 }
@@ -247,9 +259,15 @@ fn spans(nodes: &Nodes, many: usize, exponent: u32, first: &mut [u32], last: &mu
 {
     first.fill(65535);
     last.fill(0);
-    number_leaves(nodes, many, exponent, first, last);
-    go_over(nodes, many, first, last);
-    unpack(first, last);
+    let mut halves = Halves {
+        nodes: *nodes,
+        many,
+        first,
+        last,
+    };
+    halves.number_leaves(exponent);
+    halves.go_over();
+    halves.unpack();
 }
 
 // The whole report, in tables that are as long as there are leaves and slabs.
@@ -308,7 +326,7 @@ pub fn lifetimes_trusting(
     ))
 }
 
-// Does nothing: of a slice in a struct no proof knows how large its numbers are, of a parameter it does.
+// Nothing to do: a proof knows of a parameter that its numbers fit 16 bits, and not of a slice in a struct.
 fn have_16_bits(firsts: &[u16])
     ensures { EachIndex firsts.now (λ i. slice_index firsts.now i < 2 ^ 16) }
 {}
