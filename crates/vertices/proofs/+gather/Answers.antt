@@ -9,7 +9,7 @@ use Rattle.vertices.proofs.+gather.Goals as goal
 use Rattle.vertices.proofs.+gather.Goals.{then-mask-eq0+then-touched, then-mask-eq0+else-touched, else-mask-eq0+then-from-lt-LIMIT, else-mask-eq0+else-from-lt-LIMIT}
 
 pub split_below-below-requires : goal.split_below-below-requires
-split_below-below-requires t c = (here_small _ _ _ _ _ _ c.requires.here, here_near _ _ _ _ _ _ c.requires.here c.requires.n_le_room.2)
+split_below-below-requires t c = let h = c.requires.here in (here_small _ _ _ _ _ _ h, here_near _ _ _ _ _ _ h c.requires.n_le_room.2)
 
 pub loop-q-init : goal.loop-q-init
 loop-q-init t c = (same_all _, c.requires.n_le_room.0, partly_none _ _ _ _ _ _ _)

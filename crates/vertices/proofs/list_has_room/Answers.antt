@@ -6,4 +6,5 @@ use Rattle.vertices.proofs.Linear.{vertices_linear}
 use Rattle.vertices.proofs.list_has_room.Goals as goal
 
 pub returns-then-has_room : goal.returns-then-has_room
-returns-then-has_room c = omega (arith, said _ _ c.if-has_room.true c.has_room.ensures, c.most_vertices.ensures, vertices_linear (the_nodes c.args.nodes.now))
+returns-then-has_room c =
+    omega (arith, said _ _ c.if-has_room.true c.has_room.ensures, vertices_linear (the_nodes c.args.nodes.now))

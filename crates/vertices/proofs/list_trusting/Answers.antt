@@ -7,7 +7,7 @@ use Rattle.vertices.proofs.list_trusting.Goals as goal
 
 pub returns-then-not-list_has_room : goal.returns-then-not-list_has_room
 returns-then-not-list_has_room c =
-    (refl, (λ r. denied c.list_has_room.result _ c.if-not-list_has_room.true c.list_has_room.ensures (omega (arith, r.vertices, r.levels))), refl)
+    (refl, λ r. denied c.list_has_room.result _ c.if-not-list_has_room.true c.list_has_room.ensures (omega (arith, r.vertices, r.levels)), refl)
 
 pub returns : goal.returns
 returns c =

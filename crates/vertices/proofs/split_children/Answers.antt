@@ -15,6 +15,6 @@ loop-w-preserved c =
     let l = c.loop-w in
     let is = steps_is _ _ _ l.w _ (is_first _ _ c.first_at-below.ensures) in
     elim c.if-leads.branch [
-      | then-leads w ↦ rw w.mask-is (filled_yes _ l.w l.mask (omega arith) (sym is ∙ (sym c.leads.ensures ∙ w.if-leads.true)) l.invariant)
-      | else-leads w ↦ rw w.mask-is (filled_no _ l.w l.mask (λ s. true≢false (sym s ∙ (sym is ∙ (sym c.leads.ensures ∙ w.if-leads.false)))) l.invariant)
+      | then-leads w ↦ rw w.mask-is (filled_yes _ l.w l.mask (omega arith) (sym is ∙ sym c.leads.ensures ∙ w.if-leads.true) l.invariant)
+      | else-leads w ↦ rw w.mask-is (filled_no _ l.w l.mask (λ s. true≢false (sym s ∙ sym is ∙ sym c.leads.ensures ∙ w.if-leads.false)) l.invariant)
     ]

@@ -6,4 +6,6 @@ use Rattle.vertices.specs.Block.{lowered_at}
 use Rattle.vertices.proofs.Block.lower_at.Given as goal
 
 abbrev pub invariant-loop-o : goal.invariant-loop-o
-invariant-loop-o l = (length l.out ≡ 8) × ((i : ℕ) → i < l.o → get_or l.out i 0 ≡ lowered_at l.nodes.firsts.now l.fn.self.at l.fn.self.mask l.mask l.q i)
+invariant-loop-o l =
+    let b = l.fn.self in
+    (length l.out ≡ 8) × ((i : ℕ) → i < l.o → get_or l.out i 0 ≡ lowered_at l.nodes.firsts.now b.at b.mask l.mask l.q i)
