@@ -21,12 +21,6 @@ struct Meeting {
     high: u32,
 }
 
-fn leaves_of(nodes: usize) -> usize
-    ensures { result ≡ leaves_of nodes }
-{
-    nodes - nodes.saturating_sub(1) / 8
-}
-
 // ---- the leaves' numbers and slabs
 
 // Takes down the slab of the next leaf, with no least slab so far, and counts it; no further than one past the last place.
@@ -311,7 +305,7 @@ pub fn lifetimes_trusting(
     }
     // No sound tree has more nodes, so no more are looked at.
     let many = nodes.keys.len().min(65537);
-    let leaves = leaves_of(many);
+    let leaves = spans::leaves_in(nodes.keys.len());
     if !have_room(leaves, exponent, first, last, needed) {
         return Err(Refusal::ReportShort);
     }
