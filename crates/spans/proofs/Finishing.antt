@@ -14,6 +14,8 @@ use Rattle.vertices.specs.Walk.{spots_of}
 use Rattle.vertices.specs.Cells.{places_of}
 use Rattle.spans.specs.Least.{LeastOf, GreatestOf}
 use Rattle.spans.specs.Trusted.{nodes_in, leaves_of, four_of, LeafAt, Beside, slab_of_place, Sharing, Shared, Alone, TrustedSpans}
+use Rattle.spans.specs.declared.Tables.{Tables}
+use Rattle.spans.specs.Tables.{Same}
 use Rattle.spans.specs.Steps.{upper, lower, Small, down, SlabsPut, Ready, Reached, Spanned, Widens, Prepared, Gathered, AllSmall, Unpacked, AllUnpacked}
 use Rattle.spans.proofs.Memory.{in_first, in_last}
 use Rattle.spans.proofs.Slabbing.{slab_small}
@@ -187,31 +189,34 @@ prepared_at n s many e small first₀ last₀ first last last' a b f l S =
     prepared n s small first last last' (f ∙ ap (λ (m : ℕ). replicate m 0) (a ∙ ap leaves_of e)) (l ∙ ap (λ (m : ℕ). replicate m 0) (b ∙ ap leaves_of e))
     (subst (λ (many : ℕ). SlabsPut n s many last last') e S)
 
-module _ (n : Nodes) (s nodes : ℕ) (e : nodes ≡ nodes_in n) (small : s ≤ limit) (first₀ last₀ first last words zeros : List ℕ) (r : ℕ) (P : Prepared n s first₀ last₀)
-    (W₀ : Widens nodes (places_of n (spots_of n)) first₀ last₀ first last) (G₀ : Gathered n.firsts nodes (first ++ last) first words r)
+-- the memory before any cell, after all cells, and with the words in the order of the leaves, of which r were gathered
+module _ (n : Nodes) (s : ℕ) (small : s ≤ limit) {lent before after : Tables} {words last zeros : List ℕ} {r : ℕ} (m : lent.many ≡ nodes_in n)
+    (same₀ : Same lent before) (P : Prepared n s before.first.now before.last.now)
+    (same₁ : Same before after) (W₀ : Widens before.many (places_of n (spots_of n)) before.first.now before.last.now after.first.now after.last.now)
+    (stays : last ≡ after.last.now) (G₀ : Gathered n.firsts after.many (after.first.now ++ after.last.now) after.first.now words r)
     (zeros-are : zeros ≡ replicate (length (mid_of r (length words - r) words)) 0) where
-  -- the words, with 0 from place r on
+  -- with 0 from place r on
   abbrev kept : List ℕ
   kept = put_mid r (length words - r) words zeros
 
   long : length kept ≡ length words
   long = same_len_mid r (length words - r) words zeros (ap length zeros-are ∙ length-replicate (length (mid_of r (length words - r) words)) 0)
 
-  W : Widens (nodes_in n) (places_of n (spots_of n)) first₀ last₀ first last
-  W = subst (λ (m : ℕ). Widens m (places_of n (spots_of n)) first₀ last₀ first last) e W₀
+  W : Widens (nodes_in n) (places_of n (spots_of n)) before.first.now before.last.now after.first.now after.last.now
+  W = rw (same₀.many ∙ m) at W₀
 
-  G : Gathered n.firsts (nodes_in n) (first ++ last) first words r
-  G = subst (λ (m : ℕ). Gathered n.firsts m (first ++ last) first words r) e G₀
+  G : Gathered n.firsts (nodes_in n) (after.first.now ++ after.last.now) after.first.now words r
+  G = rw (same₁.many ∙ same₀.many ∙ m) at G₀
 
-  S : Spanned (nodes_in n) (slab_of_place n s) (places_of n (spots_of n)) first last
+  S : Spanned (nodes_in n) (slab_of_place n s) (places_of n (spots_of n)) after.first.now after.last.now
   S = W.spans (slab_of_place n s) [] 0 refl P.spans
 
   pub small_words : AllSmall kept
   small_words =
-      all_small n s small first last words zeros (post_of r (length words - r) words) r (length (mid_of r (length words - r) words)) W.ready S G zeros-are
-      (mid_len r (length words) words (omega arith)) long
+      all_small n s small after.first.now after.last.now words zeros (post_of r (length words - r) words) r (length (mid_of r (length words - r) words)) W.ready S G
+      zeros-are (mid_len r (length words) words (omega arith)) long
 
-  pub spans_left : (first' last' : List ℕ) → AllUnpacked kept last first' last' → TrustedSpans n s first' last'
-  spans_left =
-      spans_done n s small first last words zeros (post_of r (length words - r) words) r (length (mid_of r (length words - r) words)) W.ready S G zeros-are
-      (mid_len r (length words) words (omega arith)) long
+  pub spans_left : {first' last' : List ℕ} → AllUnpacked kept last first' last' → TrustedSpans n s first' last'
+  spans_left {first'} {last'} U =
+      spans_done n s small after.first.now after.last.now words zeros (post_of r (length words - r) words) r (length (mid_of r (length words - r) words)) W.ready S G
+      zeros-are (mid_len r (length words) words (omega arith)) long first' last' (rw stays at U)

@@ -1,4 +1,5 @@
 -- The laws behind `spans`.
+pub mod Lent
 pub mod HowMany
 pub mod Numbers
 pub mod Raising

@@ -2,3 +2,4 @@
 pub mod Least
 pub mod Trusted
 pub mod Steps
+pub mod Tables

@@ -5,11 +5,12 @@ use native.Mathlib.Omega.{arith}
 use lib.ListN.{length, length-take}
 use lib.Seq.{length-take-le}
 use Rattle.spans.proofs.Going.{going_none, at_most, batch_inside, next_fits, fewer, going_more, going_all}
-use Rattle.spans.proofs.go_over.Goals as goal
-use Rattle.spans.proofs.go_over.Goals.{After-cells_trusting-came}
+use Rattle.spans.proofs.Lent.{lent, still}
+use Rattle.spans.proofs.Tables.go_over.Goals as goal
+use Rattle.spans.proofs.Tables.go_over.Goals.{After-cells_trusting-came}
 
 pub loop-vertices-init : goal.loop-vertices-init
-loop-vertices-init c = record { sized = (refl, refl, refl); going = going_none _ _ _ _ c.requires.1 }
+loop-vertices-init c = record { same = lent _; sized = (refl, refl, refl); going = going_none _ _ _ _ c.requires.ready }
 
 places_long : (c : After-cells_trusting-came) → length c.cells_trusting-came.new.places ≡ 1024
 places_long c = c.cells_trusting-came.auto.places ∙ c.loop-vertices.invariant.sized.2
@@ -33,13 +34,14 @@ widen-requires-clause-whole_cells c =
     let k = c.loop-vertices.invariant in
     let w = (goal.at.widen-requires-clause-whole_cells c).After-cells_trusting-came in (
       omega (arith, few w, places_long w, length-take (8 * c.cells_trusting-came.result) c.cells_trusting-came.new.places),
-      batch_inside k.going _ _ k.sized c.cells_trusting-came.ensures c.have_16_bits.ensures c.requires.0,
+      rw k.same.many (batch_inside k.going _ _ k.sized c.cells_trusting-came.ensures c.have_16_bits.ensures c.requires.many_value),
     )
 
-pub returns-then-came-lt-BATCH : goal.returns-then-came-lt-BATCH
-returns-then-came-lt-BATCH c =
+pub returns-then-came-lt-BATCH-clause-widens : goal.returns-then-came-lt-BATCH-clause-widens
+returns-then-came-lt-BATCH-clause-widens c =
     let k = c.loop-vertices.invariant in
-    going_all k.going _ _ k.sized c.cells_trusting-came.ensures c.widen.ensures c.if-came-lt-BATCH.true
+    let widens = rw k.same.many at c.widen.ensures.widens in
+    going_all k.going _ _ k.sized c.cells_trusting-came.ensures widens c.if-came-lt-BATCH.true
 
 pub overflow_add-from : goal.overflow_add-from
 overflow_add-from c =
@@ -54,7 +56,9 @@ pub loop-vertices-preserved : goal.loop-vertices-preserved
 loop-vertices-preserved c =
     let k = c.loop-vertices.invariant in
     let w = c.cells_trusting-came in
+    let widens = rw k.same.many at c.widen.ensures.widens in
     record {
+      same = still k.same c.widen.ensures.same;
       sized = (w.auto.vertices ∙ k.sized.0, w.auto.levels ∙ k.sized.1, w.auto.places ∙ k.sized.2);
-      going = going_more k.going _ _ k.sized w.ensures c.widen.ensures c.if-came-lt-BATCH.false;
+      going = going_more k.going _ _ k.sized w.ensures widens c.if-came-lt-BATCH.false;
     }

@@ -3,7 +3,7 @@ use Prim.Native.Nat.{◌+◌}
 use mathlib.Core.Path.{refl}
 use native.Mathlib.Omega.{arith}
 use Rattle.spans.proofs.Yet.{reaching_none, reaching_more, reaching_all}
-use Rattle.spans.proofs.reach_of_four.Goals as goal
+use Rattle.spans.proofs.Tables.reach_of_four.Goals as goal
 
 pub loop-o-init : goal.loop-o-init
 loop-o-init c = reaching_none _ _ _
