@@ -62,7 +62,10 @@ module _ (nodes : ℕ) (places : List ℕ) (at reach : ℕ) (first last first' l
   pub own_stays : (p : ℕ) → own nodes last' p ≡ own nodes last p
   own_stays p =
       sym (own_is nodes p first' last' (A.first_long ∙ R.first_long) (A.last_long ∙ R.last_long))
-      ∙ ⊎_elim (λ a. absurd (omega (arith, a.0.here, inside (8 * at + a.0.o) (omega (arith, a.0.o_inside, room))))) (λ b. b.1) (A.each (nodes + (p + 3) / 4))
+      ∙ ⊎_elim
+      (λ a. absurd (omega (arith, a.0.here, inside (8 * at + a.0.o) (omega (arith, a.0.o_inside, room)))))
+      (λ b. b.1)
+      (A.each (nodes + (p + 3) / 4))
       ∙ own_is nodes p first last R.first_long R.last_long
 
   pub ready_again : Small reach → Ready nodes first' last'

@@ -16,13 +16,17 @@ use Rattle.spans.specs.Least.{LeastOf, GreatestOf}
 use Rattle.spans.specs.Trusted.{nodes_in, leaves_of, four_of, LeafAt, Beside, slab_of_place, Sharing, Shared, Alone, TrustedSpans}
 use Rattle.spans.specs.declared.Tables.{Tables}
 use Rattle.spans.specs.Tables.{Same}
-use Rattle.spans.specs.Steps.{upper, lower, Small, down, SlabsPut, Ready, Reached, Spanned, Widens, Prepared, Gathered, AllSmall, Unpacked, AllUnpacked}
+use Rattle.spans.specs.Steps.{upper, lower, Small, GreatestYet, down, SlabsPut, Ready, Reached, Spanned, Widens, Prepared, Gathered, AllSmall, Unpacked, AllUnpacked}
 use Rattle.spans.proofs.Memory.{in_first, in_last}
 use Rattle.spans.proofs.Slabbing.{slab_small}
 use Rattle.spans.proofs.Yet.{yet_none, yet_same}
 use Rattle.spans.proofs.Gathering.{leaf_place, none_past}
 
 -- ---- before
+
+-- of no cell at all
+no_cell : (height : ℕ → ℕ) (p x : ℕ) → 0 ≡ x → GreatestYet (Beside height [] p) x
+no_cell height p x e = yet_same x e (yet_none {Kind = Beside height [] p} (λ y b. omega (arith, b.e_inside))) (λ y b. b) (λ y b. b)
 
 module _ (n : Nodes) (s : ℕ) (small : s ≤ limit) (first last last' : List ℕ) where
   abbrev nodes : ℕ
@@ -60,13 +64,26 @@ module _ (n : Nodes) (s : ℕ) (small : s ≤ limit) (first last last' : List �
       spans = record {
         owned = S.each;
         each = λ p h. record {
-          highest = yet_same _ (omega (arith, empty p h)) (yet_none {Kind = Beside (slab_of_place n s) [] p} (λ y b. omega (arith, b.e_inside))) (λ y b. b) (λ y b. b);
-          lowest = yet_same _ (omega (arith, empty p h)) (yet_none {Kind = Beside (down (slab_of_place n s)) [] p} (λ y b. omega (arith, b.e_inside))) (λ y b. b) (λ y b. b);
+          highest = no_cell (slab_of_place n s) p (lower (get_or (first ++ last') p 0)) (omega (arith, empty p h));
+          lowest = no_cell (down (slab_of_place n s)) p (upper (get_or (first ++ last') p 0)) (omega (arith, empty p h));
         };
       };
     }
 
 -- ---- after
+
+-- by another height
+beside_as : {height height' : ℕ → ℕ} {places : List ℕ} {p y y' : ℕ} → ((q : ℕ) → height q ≡ y → height' q ≡ y') → Beside height places p y
+    → Beside height' places p y'
+beside_as {height} {height'} {places} to b = record {
+  e = b.e;
+  f = b.f;
+  e_inside = b.e_inside;
+  f_inside = b.f_inside;
+  one_cell = b.one_cell;
+  here = b.here;
+  there = to (get_or places b.f 0) b.there;
+}
 
 module _ (n : Nodes) (s : ℕ) (small : s ≤ limit) where
   abbrev slab : ℕ → ℕ
@@ -80,10 +97,10 @@ module _ (n : Nodes) (s : ℕ) (small : s ≤ limit) where
 
   module _ (p : ℕ) where
     as_down : (y : ℕ) → Beside slab places p y → Beside (down slab) places p (32767 - y)
-    as_down y b = record { e = b.e; f = b.f; e_inside = b.e_inside; f_inside = b.f_inside; one_cell = b.one_cell; here = b.here; there = ap (λ (x : ℕ). 32767 - x) b.there }
+    as_down y b = beside_as (λ q e. ap (λ (x : ℕ). 32767 - x) e) b
 
     as_up : (y : ℕ) → Beside (down slab) places p y → Beside slab places p (32767 - y)
-    as_up y b = record { e = b.e; f = b.f; e_inside = b.e_inside; f_inside = b.f_inside; one_cell = b.one_cell; here = b.here; there = omega (arith, b.there, slab_most (get_or places b.f 0)) }
+    as_up y b = beside_as (λ q e. omega (arith, e, slab_most q)) b
 
   -- of a leaf, by its word
   module _ (i p w : ℕ) (leaf : LeafAt n.firsts (nodes_in n) p i) (R : Reached slab places p w) (few : Small w) where
@@ -122,7 +139,8 @@ module _ (n : Nodes) (s : ℕ) (small : s ≤ limit) where
         (λ u. inr (record { none = λ y b. omega (arith, below y b, above y b, u.0); from = u.1; to = u.2 }))
         u
 
-  no_leaf_span : (i first last : ℕ) → ((p : ℕ) → LeafAt n.firsts (nodes_in n) p i → ⊥) → Unpacked 0 first last → Shared n s i first last ⊎ Alone n s i first last
+  no_leaf_span : (i first last : ℕ) → ((p : ℕ) → LeafAt n.firsts (nodes_in n) p i → ⊥) → Unpacked 0 first last
+      → Shared n s i first last ⊎ Alone n s i first last
   no_leaf_span i first last none u =
       inr (⊎_elim (λ u. absurd (omega (arith, u.0))) (λ u. record { none = λ y b. none b.place b.leaf; from = u.1; to = u.2 }) u)
 
@@ -177,16 +195,19 @@ module _ (n : Nodes) (s : ℕ) (small : s ≤ limit) where
           (λ (p, leaf, e).
           leaf_span i p (get_or (first ++ last) p 0) leaf (S.each p leaf.inside) (R.words p leaf.inside) (get_or first' i 0) (get_or last' i 0)
           (subst (λ (w : ℕ). Unpacked w (get_or first' i 0) (get_or last' i 0)) e u))
-          (λ b. no_leaf_span i (get_or first' i 0) (get_or last' i 0) b.0 (subst (λ (w : ℕ). Unpacked w (get_or first' i 0) (get_or last' i 0)) b.1 u))
+          (λ b.
+          no_leaf_span i (get_or first' i 0) (get_or last' i 0) b.0 (subst (λ (w : ℕ). Unpacked w (get_or first' i 0) (get_or last' i 0)) b.1 u))
           (word i h);
     }
 
 -- ---- the steps one after another
 
 pub prepared_at : (n : Nodes) (s many : ℕ) → many ≡ nodes_in n → s ≤ limit → (first₀ last₀ first last last' : List ℕ) → length first₀ ≡ leaves_of many
-    → length last₀ ≡ leaves_of many → first ≡ replicate (length first₀) 0 → last ≡ replicate (length last₀) 0 → SlabsPut n s many last last' → Prepared n s first last'
+    → length last₀ ≡ leaves_of many → first ≡ replicate (length first₀) 0 → last ≡ replicate (length last₀) 0 → SlabsPut n s many last last'
+    → Prepared n s first last'
 prepared_at n s many e small first₀ last₀ first last last' a b f l S =
-    prepared n s small first last last' (f ∙ ap (λ (m : ℕ). replicate m 0) (a ∙ ap leaves_of e)) (l ∙ ap (λ (m : ℕ). replicate m 0) (b ∙ ap leaves_of e))
+    prepared n s small first last last' (f ∙ ap (λ (m : ℕ). replicate m 0) (a ∙ ap leaves_of e))
+    (l ∙ ap (λ (m : ℕ). replicate m 0) (b ∙ ap leaves_of e))
     (subst (λ (many : ℕ). SlabsPut n s many last last') e S)
 
 -- the memory before any cell, after all cells, and with the words in the order of the leaves, of which r were gathered
@@ -213,10 +234,10 @@ module _ (n : Nodes) (s : ℕ) (small : s ≤ limit) {lent before after : Tables
 
   pub small_words : AllSmall kept
   small_words =
-      all_small n s small after.first.now after.last.now words zeros (post_of r (length words - r) words) r (length (mid_of r (length words - r) words)) W.ready S G
-      zeros-are (mid_len r (length words) words (omega arith)) long
+      all_small n s small after.first.now after.last.now words zeros (post_of r (length words - r) words) r
+      (length (mid_of r (length words - r) words)) W.ready S G zeros-are (mid_len r (length words) words (omega arith)) long
 
   pub spans_left : {first' last' : List ℕ} → AllUnpacked kept last first' last' → TrustedSpans n s first' last'
   spans_left {first'} {last'} U =
-      spans_done n s small after.first.now after.last.now words zeros (post_of r (length words - r) words) r (length (mid_of r (length words - r) words)) W.ready S G
-      zeros-are (mid_len r (length words) words (omega arith)) long first' last' (rw stays at U)
+      spans_done n s small after.first.now after.last.now words zeros (post_of r (length words - r) words) r
+      (length (mid_of r (length words - r) words)) W.ready S G zeros-are (mid_len r (length words) words (omega arith)) long first' last' (rw stays at U)

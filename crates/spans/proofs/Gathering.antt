@@ -31,25 +31,28 @@ none_past {firsts} {nodes} {r} {p} e h a = omega (arith, number_below firsts p n
 
 -- what is gathered of the places below p; those from p on are as they were
 pub record GatheredTo (fs : List ℕ) (nodes : ℕ) (memory last first : List ℕ) (number p : ℕ) : Type 0 where
-  pub below : p ≤ nodes
   pub as_long : length first ≡ leaves_of nodes
   pub count : number ≡ min (number_of fs p) (leaves_of nodes)
   pub each : (i : ℕ) → i < number → (q : ℕ) × LeafAt fs nodes q i × (get_or first i 0 ≡ get_or memory q 0)
   pub ahead : (j : ℕ) → p ≤ j → get_or (first ++ last) j 0 ≡ get_or memory j 0
 
-pub gathered_none : (fs : List ℕ) (nodes : ℕ) (first last : List ℕ) → length first ≡ leaves_of nodes → GatheredTo fs nodes (first ++ last) last first 0 0
+pub gathered_none : (fs : List ℕ) (nodes : ℕ) (first last : List ℕ) → length first ≡ leaves_of nodes
+    → GatheredTo fs nodes (first ++ last) last first 0 0
 unfolding how_many
-gathered_none fs nodes first last e = record { below = omega arith; as_long = e; count = omega arith; each = λ i h. absurd (omega arith); ahead = λ j h. refl }
+gathered_none fs nodes first last e = record { as_long = e; count = omega arith; each = λ i h. absurd (omega arith); ahead = λ j h. refl }
 
 module _ (fs : List ℕ) (nodes : ℕ) (memory last first : List ℕ) (number p : ℕ) (G : GatheredTo fs nodes memory last first number p) where
-  module _ (h : p < nodes) (word child : ℕ) (w : word ≡ get_or (first ++ last) p 0) (c : child ≡ get_or fs p 0) (first' : List ℕ) (r : ℕ) (T : Takes first number word child first' r) where
+  module _ (h : p < nodes) (word child : ℕ) (w : word ≡ get_or (first ++ last) p 0) (c : child ≡ get_or fs p 0) (first' : List ℕ) (r : ℕ)
+      (T : Takes first number word child first' r) where
     count_more : r ≡ min (number_of fs (p + 1)) (leaves_of nodes)
     count_more =
         ⊎_elim
         (λ t. omega (arith, t.1, t.2, G.count, number_leaf fs p (sym c ∙ t.0)))
         (λ t.
         ⊎_elim
-        (λ z. ⊎_elim (λ l. absurd (t.0 (z, l))) (λ l. omega (arith, t.1, l, G.as_long, G.count, number_leaf fs p (sym c ∙ z))) (order number (length first)))
+        (λ z.
+        ⊎_elim (λ l. absurd (t.0 (z, l))) (λ l. omega (arith, t.1, l, G.as_long, G.count, number_leaf fs p (sym c ∙ z)))
+        (order number (length first)))
         (λ n. omega (arith, t.1, G.count, number_other fs p (λ z. n (c ∙ z))))
         (same child 0))
         T.3
@@ -70,7 +73,6 @@ module _ (fs : List ℕ) (nodes : ℕ) (memory last first : List ℕ) (number p 
 
     pub gathered_more : GatheredTo fs nodes memory last first' r (p + 1)
     gathered_more = record {
-      below = omega arith;
       as_long = T.0 ∙ G.as_long;
       count = count_more;
       each = λ i l.

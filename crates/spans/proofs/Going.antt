@@ -109,7 +109,8 @@ module _ {ns : Nodes} {nodes : ℕ} {first₀ last₀ first last : List ℕ} {fr
     widened : Widens nodes (places_of ns (g.past ++ batch)) first₀ last₀ first' last'
     widened =
         subst (λ (xs : List ℕ). Widens nodes xs first₀ last₀ first' last')
-        (ap (λ (xs : List ℕ). places_of ns g.past ++ xs) (came_places ns from g.past g.ahead g.gone was left n says) ∙ sym (places_append ns g.past batch))
+        (ap (λ (xs : List ℕ). places_of ns g.past ++ xs) (came_places ns from g.past g.ahead g.gone was left n says)
+        ∙ sym (places_append ns g.past batch))
         (widens_then nodes (places_of ns g.past) (length g.past) (take (8 * n) left.places) first₀ last₀ first last first' last'
         (places_length ns g.past) g.widens W)
 

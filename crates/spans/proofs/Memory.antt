@@ -20,7 +20,8 @@ module _ (xs ys : List ℕ) (i : ℕ) where
       ap (λ (j : ℕ). get_or (xs ++ ys) j 0) (sym e) ∙ get_or-append-add xs ys (i - length xs) 0
 
 -- a place of the memory stays if it stays in the first table
-pub words_stay : (first first' last : List ℕ) (p : ℕ) → length first' ≡ length first → get_or first' p 0 ≡ get_or first p 0 → get_or (first' ++ last) p 0 ≡ get_or (first ++ last) p 0
+pub words_stay : (first first' last : List ℕ) (p : ℕ) → length first' ≡ length first → get_or first' p 0 ≡ get_or first p 0
+    → get_or (first' ++ last) p 0 ≡ get_or (first ++ last) p 0
 words_stay first first' last p l e =
     ⊎_elim
     (λ h. in_first first' last p (omega arith) ∙ e ∙ sym (in_first first last p h))

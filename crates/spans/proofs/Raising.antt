@@ -58,7 +58,11 @@ module _ (a b : ℕ) (h : Small a) (k : Small b) where
   rest_high : upper rest ≡ upper a - upper b
   rest_high =
       let e : upper (sign - sign / 32768) ≡ upper over / 32768 * 32767 = omega (arith, mask) in
-      omega (arith, and_shr over (sign - sign / 32768) 16 ∙ ap (bit_and (upper over)) e ∙ cut (upper over) (omega (arith, over_high, h.high)), over_high)
+      omega (
+        arith,
+        and_shr over (sign - sign / 32768) 16 ∙ ap (bit_and (upper over)) e ∙ cut (upper over) (omega (arith, over_high, h.high)),
+        over_high,
+      )
 
   pub fits : b + rest < 4294967296
   fits = omega (arith, rest_low, rest_high, h.low, h.high, k.low, k.high)

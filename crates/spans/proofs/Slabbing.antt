@@ -32,7 +32,8 @@ pub record SlabsTo (n : Nodes) (s nodes : ℕ) (last₀ last : List ℕ) (p : �
 slabs_none : (n : Nodes) (s nodes : ℕ) (last : List ℕ) → SlabsTo n s nodes last last 0
 slabs_none n s nodes last = record { four = refl; as_long = refl; before = λ i h. refl; each = λ q h. absurd (omega arith) }
 
-module _ (n : Nodes) (s nodes : ℕ) (last₀ last : List ℕ) (p x : ℕ) (T : SlabsTo n s nodes last₀ last p) (long : length last₀ ≡ leaves_of nodes) (h : p < nodes) where
+module _ (n : Nodes) (s nodes : ℕ) (last₀ last : List ℕ) (p x : ℕ) (T : SlabsTo n s nodes last₀ last p)
+    (long : length last₀ ≡ leaves_of nodes) (h : p < nodes) where
   abbrev at : ℕ
   at = nodes - length last₀ + (p + 3) / 4
 
@@ -74,7 +75,8 @@ module _ (n : Nodes) (s nodes : ℕ) (last₀ last : List ℕ) (p x : ℕ) (T : 
           ∙ ap (λ (p : ℕ). slab_of s (get_or n.keys p 0)) f
 
 -- the root, if there is one
-pub slabs_root : (n : Nodes) (s nodes : ℕ) (last : List ℕ) (x : ℕ) → length last ≡ leaves_of nodes → 0 < nodes → s ≤ limit → x ≡ slab_at s (get_or n.keys 0 0)
+pub slabs_root : (n : Nodes) (s nodes : ℕ) (last : List ℕ) (x : ℕ) → length last ≡ leaves_of nodes → 0 < nodes → s ≤ limit
+    → x ≡ slab_at s (get_or n.keys 0 0)
     → SlabsTo n s nodes last (set last (nodes - length last) x) 1
 slabs_root n s nodes last x long h small e =
     let i : nodes - length last + (0 + 3) / 4 ≡ nodes - length last = omega arith in
@@ -84,7 +86,8 @@ pub slabs_no_root : (n : Nodes) (s nodes : ℕ) (last : List ℕ) → nodes ≤ 
 slabs_no_root n s nodes last h = record { four = refl; as_long = refl; before = λ i l. refl; each = λ q l i. absurd (omega arith) }
 
 -- four siblings more
-pub slabs_more : {n : Nodes} {s nodes : ℕ} {last₀ last : List ℕ} {p x : ℕ} → SlabsTo n s nodes last₀ last p → 1 ≤ p → length last₀ ≡ leaves_of nodes → p < nodes
+pub slabs_more : {n : Nodes} {s nodes : ℕ} {last₀ last : List ℕ} {p x : ℕ} → SlabsTo n s nodes last₀ last p → 1 ≤ p → length last₀ ≡ leaves_of nodes
+    → p < nodes
     → s ≤ limit → x ≡ slab_at s (get_or n.keys p 0) → SlabsTo n s nodes last₀ (set last (nodes - length last₀ + (p + 3) / 4) x) (p + 4)
 slabs_more {n} {s} {nodes} {last₀} {last} {p} {x} T g long h small e =
     let i : next_four p ≡ p + 4 = omega (arith, T.four) in

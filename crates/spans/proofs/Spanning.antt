@@ -87,7 +87,8 @@ module _ (height : ℕ → ℕ) (seen places : List ℕ) (k at : ℕ) (long : le
         (order b.e (8 * k))
 
     -- of a node that the cell has
-    pub yet_raised : Entry places at 8 p → {x reach : ℕ} (z : ℕ) → z ≡ max x reach → GreatestYet (Beside height seen p) x → GreatestYet (Meets height places (8 * at) 8) reach
+    pub yet_raised : Entry places at 8 p → {x reach : ℕ} (z : ℕ) → z ≡ max x reach → GreatestYet (Beside height seen p) x
+        → GreatestYet (Meets height places (8 * at) 8) reach
         → GreatestYet (Beside height all p) z
     yet_raised n z e a b = yet_both z e a b old (new n) (λ y c. ⊎_elim (λ l. inl l) (λ r. inr r.1) (either y c))
 
@@ -96,13 +97,15 @@ module _ (height : ℕ → ℕ) (seen places : List ℕ) (k at : ℕ) (long : le
     yet_kept none z e a = yet_same z e a old (λ y c. ⊎_elim (λ l. l) (λ r. absurd (none r.0)) (either y c))
 
 module _ (nodes : ℕ) (places : List ℕ) (at reach : ℕ) (first last first' last' : List ℕ) (R : Ready nodes first last) (inside : Inside nodes places)
-    (room : 8 * at + 8 ≤ length places) (C : Reach (own nodes last) places (8 * at) 8 reach) (A : AllRaised places at 8 reach first last first' last') where
+    (room : 8 * at + 8 ≤ length places) (C : Reach (own nodes last) places (8 * at) 8 reach)
+    (A : AllRaised places at 8 reach first last first' last') where
   -- what the slabs tell of the cell's nodes their heights do
   module _ (height : ℕ → ℕ) (owned : (p : ℕ) → p < nodes → own nodes last p ≡ height p) (way : ℕ → ℕ) where
     node : (o : ℕ) → o < 8 → way (own nodes last (get_or places (8 * at + o) 0)) ≡ way (height (get_or places (8 * at + o) 0))
     node o h = ap way (owned (get_or places (8 * at + o) 0) (inside (8 * at + o) (omega (arith, room))))
 
-    met : {x : ℕ} → GreatestYet (Meets (λ p. way (own nodes last p)) places (8 * at) 8) x → GreatestYet (Meets (λ p. way (height p)) places (8 * at) 8) x
+    met : {x : ℕ} → GreatestYet (Meets (λ p. way (own nodes last p)) places (8 * at) 8) x
+        → GreatestYet (Meets (λ p. way (height p)) places (8 * at) 8) x
     met {x} a =
         yet_same x (omega arith) a
         (λ y m. record { o = m.o; o_inside = m.o_inside; there = sym (node m.o m.o_inside) ∙ m.there })

@@ -13,7 +13,8 @@ pub yet_none : {Kind : ℕ → Type 0} → ((y : ℕ) → Kind y → ⊥) → Gr
 yet_none none = record { all = λ y k. absurd (none y k); one = inl refl }
 
 -- of one kind or the other
-pub yet_both : {A B C : ℕ → Type 0} {x y : ℕ} (z : ℕ) → z ≡ max x y → GreatestYet A x → GreatestYet B y → ((v : ℕ) → A v → C v) → ((v : ℕ) → B v → C v)
+pub yet_both : {A B C : ℕ → Type 0} {x y : ℕ} (z : ℕ) → z ≡ max x y → GreatestYet A x → GreatestYet B y → ((v : ℕ) → A v → C v)
+    → ((v : ℕ) → B v → C v)
     → ((v : ℕ) → C v → A v ⊎ B v) → GreatestYet C z
 yet_both {A} {B} {C} {x} {y} z e a b from-a from-b either = record {
   all = λ v c. ⊎_elim (λ h. omega (arith, a.all v h)) (λ h. omega (arith, b.all v h)) (either v c);
@@ -49,7 +50,8 @@ module _ (height : ℕ → ℕ) (places : List ℕ) (from n : ℕ) where
       (λ g. let e : n ≡ m.o = omega (arith, m.o_inside) in inr (ap (λ (o : ℕ). height (get_or places (from + o) 0)) e ∙ m.there))
       (order m.o n)
 
-  pub meets_more : (x z : ℕ) → z ≡ max x (height (get_or places (from + n) 0)) → GreatestYet (Meets height places from n) x → GreatestYet (Meets height places from (n + 1)) z
+  pub meets_more : (x z : ℕ) → z ≡ max x (height (get_or places (from + n) 0)) → GreatestYet (Meets height places from n) x
+      → GreatestYet (Meets height places from (n + 1)) z
   unfolding next
   meets_more x z e a = yet_both z e a (record { all = λ v e. omega (arith, e); one = inr refl }) old new either
 
@@ -68,7 +70,8 @@ reaching_none height places from = record {
   lowest = yet_none (λ y m. omega (arith, m.o_inside));
 }
 
-pub reaching_more : (height : ℕ → ℕ) (places : List ℕ) (from n low high low' high' x : ℕ) → x ≡ height (get_or places (from + n) 0) → x < 32768 → low' ≡ min low x → high' ≡ max high x
+pub reaching_more : (height : ℕ → ℕ) (places : List ℕ) (from n low high low' high' x : ℕ) → x ≡ height (get_or places (from + n) 0) → x < 32768
+    → low' ≡ min low x → high' ≡ max high x
     → Reaching height places from n low high → Reaching height places from (n + 1) low' high'
 reaching_more height places from n low high low' high' x e small l h r = record {
   low_small = omega (arith, r.low_small);
@@ -77,7 +80,8 @@ reaching_more height places from n low high low' high' x e small l h r = record 
   lowest = meets_more (down height) places from n (32767 - low) (32767 - low') (omega (arith, e, r.low_small)) r.lowest;
 }
 
-pub reaching_all : (height : ℕ → ℕ) (places : List ℕ) (from n low high : ℕ) → 4 ≤ n → n ≤ 4 → Reaching height places from n low high → Reach height places from 4 (65536 * (32767 - low) + high)
+pub reaching_all : (height : ℕ → ℕ) (places : List ℕ) (from n low high : ℕ) → 4 ≤ n → n ≤ 4 → Reaching height places from n low high
+    → Reach height places from 4 (65536 * (32767 - low) + high)
 reaching_all height places from n low high g h r₀ = record {
   small = record { low = omega (arith, r.high_small); high = omega (arith, r.high_small) };
   highest = yet_same _ (omega (arith, r.high_small)) r.highest (λ v m. m) (λ v m. m);
@@ -106,10 +110,12 @@ module _ (height : ℕ → ℕ) (places : List ℕ) (from : ℕ) where
       inr (record { o = m.o - 4; o_inside = omega (arith, m.o_inside); there = ap (λ (i : ℕ). height (get_or places i 0)) e ∙ m.there }))
       (order m.o 4)
 
-  fours : {x y : ℕ} (z : ℕ) → z ≡ max x y → GreatestYet (Meets height places from 4) x → GreatestYet (Meets height places (from + 4) 4) y → GreatestYet (Meets height places from 8) z
+  fours : {x y : ℕ} (z : ℕ) → z ≡ max x y → GreatestYet (Meets height places from 4) x → GreatestYet (Meets height places (from + 4) 4) y
+      → GreatestYet (Meets height places from 8) z
   fours z e a b = yet_both z e a b lower_four upper_four which_four
 
-pub both_fours : (height : ℕ → ℕ) (places : List ℕ) (from a b r : ℕ) → Reach height places from 4 a → Reach height places (from + 4) 4 b → Raised a b r → Reach height places from 8 r
+pub both_fours : (height : ℕ → ℕ) (places : List ℕ) (from a b r : ℕ) → Reach height places from 4 a → Reach height places (from + 4) 4 b
+    → Raised a b r → Reach height places from 8 r
 both_fours height places from a b r x y j = record {
   small = raised_small x.small y.small j;
   highest = fours height places from _ j.low x.highest y.highest;

@@ -126,7 +126,8 @@ AllSmall words = (i : ℕ) → i < length words → Small (get_or words i 0)
 -- A word is unpacked: where the highest is below the lowest, there was no cell.
 abbrev pub Unpacked : ℕ → ℕ → ℕ → Type 0
 Unpacked word first last =
-    ((32767 - upper word ≤ lower word) × (first ≡ 32767 - upper word) × (last ≡ lower word)) ⊎ ((lower word < 32767 - upper word) × (first ≡ 1) × (last ≡ 0))
+    ((32767 - upper word ≤ lower word) × (first ≡ 32767 - upper word) × (last ≡ lower word))
+    ⊎ ((lower word < 32767 - upper word) × (first ≡ 1) × (last ≡ 0))
 
 pub record AllUnpacked (first last first' last' : List ℕ) : Type 0 where
   pub first_long : length first' ≡ length first

@@ -71,7 +71,8 @@ pub record Alone (n : Nodes) (s i first last : ℕ) : Type 0 where
 pub record TrustedSpans (n : Nodes) (s : ℕ) (firsts lasts : List ℕ) : Type 0 where
   pub as_many_firsts : length firsts ≡ leaves_of (nodes_in n)
   pub as_many_lasts : length lasts ≡ leaves_of (nodes_in n)
-  pub each : (i : ℕ) → i < leaves_of (nodes_in n) → Shared n s i (get_or firsts i 0) (get_or lasts i 0) ⊎ Alone n s i (get_or firsts i 0) (get_or lasts i 0)
+  pub each : (i : ℕ) → i < leaves_of (nodes_in n)
+      → Shared n s i (get_or firsts i 0) (get_or lasts i 0) ⊎ Alone n s i (get_or firsts i 0) (get_or lasts i 0)
 
 -- ---- the call
 

@@ -1,11 +1,11 @@
 #![tactic(auto)]
 // From which slab to which slab each leaf of a tree is needed, over all its dual cells. Ours: the Rust frees nothing.
-ghost use Rattle.std.specs.Prelude.{◌≡◌, List, ◌++◌, ◌+◌, ◌*◌, ◌/◌, ◌^◌, ◌<◌, ◌≤◌, ◌%◌, min, ℕ, length, get_or};
+ghost use Rattle.std.specs.Prelude.{◌≡◌, ℕ, ◌+◌, ◌*◌, ◌%◌, ◌^◌, ◌<◌, ◌≤◌, min, ◌++◌, length, get_or};
 ghost use Rattle.morton.specs.Level.{limit};
 ghost use Rattle.tree.specs.Down.{the_nodes};
 ghost use Rattle.vertices.specs.Walk.{spots_of};
 ghost use Rattle.vertices.specs.Cells.{places_of};
-ghost use Rattle.spans.specs.Trusted.{nodes_in, leaves_of, four_of, TrustedSpans, SpansSays};
+ghost use Rattle.spans.specs.Trusted.{nodes_in, leaves_of, TrustedSpans, SpansSays};
 ghost use Rattle.spans.specs.Tables.{Same};
 ghost use Rattle.spans.specs.Steps.{Small, Raised, own, SlabsPut, SmallSlabs, Ready, Reach, RaiseSays, AllRaised, Inside, AllSmall, Widens, Prepared, Takes, Gathered, AllUnpacked};
 
@@ -48,7 +48,7 @@ const HIGHEST: u32 = 32767;
 const UPPER: u32 = 65536;
 
 // The top bit of each half of a word.
-const TOP_BITS: u32 = 2147516416;
+const TOP_BITS: u32 = 0x8000_8000;
 
 // How many vertices are asked for at a time: so many that beginning anew at the root costs little, and so few that they fit on the stack.
 const BATCH: usize = 128;
@@ -113,7 +113,8 @@ impl Tables<'_> {
 
     // From which slab to which the nodes of four places of a table lie; as in a node's word.
     fn reach_of_four(&self, places: &[usize], from: usize) -> u32
-        requires last_len { (length self.now.last.now ≡ leaves_of self.now.many) × (from + 4 ≤ length places.now) × Inside self.now.many places.now }
+        requires last_len { (length self.now.last.now ≡ leaves_of self.now.many)
+            × (from + 4 ≤ length places.now) × Inside self.now.many places.now }
         requires small_slabs { SmallSlabs self.now.many self.now.last.now }
         ensures { Reach (own self.now.many self.now.last.now) places.now from 4 result }
     {
@@ -130,7 +131,8 @@ impl Tables<'_> {
 
     // The same of a cell: its nodes below the vertex and those above it, since of a longer row of comparisons the compiler makes branches too.
     fn reach_of_cell(&self, places: &[usize], at: usize) -> u32
-        requires last_len { (length self.now.last.now ≡ leaves_of self.now.many) × (8 * at + 8 ≤ length places.now) × Inside self.now.many places.now }
+        requires last_len { (length self.now.last.now ≡ leaves_of self.now.many)
+            × (8 * at + 8 ≤ length places.now) × Inside self.now.many places.now }
         requires small_slabs { SmallSlabs self.now.many self.now.last.now }
         ensures { Reach (own self.now.many self.now.last.now) places.now (8 * at) 8 result }
     {
@@ -227,7 +229,8 @@ impl Tables<'_> {
         requires { (length self.old.first.now ≡ leaves_of self.old.many) × (length self.old.last.now ≡ leaves_of self.old.many) }
         ensures same { Same self.old self.new }
         ensures last { self.new.last.now ≡ self.old.last.now }
-        ensures gathered { Gathered nodes.now.firsts.now self.old.many (self.old.first.now ++ self.old.last.now) self.old.first.now self.new.first.now result }
+        ensures gathered { Gathered nodes.now.firsts.now self.old.many (self.old.first.now ++ self.old.last.now)
+            self.old.first.now self.new.first.now result }
     {
         let mut number: usize = 0;
         for place in 0..self.many {
@@ -277,6 +280,7 @@ impl Tables<'_> {
 // ---- the call
 
 // The spans, in tables that are as long as there are leaves.
+// Kept: the tables one by one, since of a part of a slice that is lent in a struct no proof knows what it becomes, but of a parameter it does.
 fn spans_in(nodes: &Nodes, exponent: u32, first: &mut [u32], last: &mut [u32])
     requires small_exponent { exponent ≤ limit }
     requires first_len { length first.old ≡ leaves_of (nodes_in (the_nodes nodes.now)) }

@@ -13,5 +13,6 @@ loop-place-preserved c =
     record {
       same = record { many = k.same.many; first = k.same.first; last = k.same.last };
       last = k.last;
-      gathered = gathered_more _ _ _ _ _ _ _ k.gathered c.loop-place-test.true _ _ c.word_at-word.ensures c.first_at.ensures _ _ c.take_over-number.ensures;
+      gathered = gathered_more _ _ _ _ _ _ _ k.gathered c.loop-place-test.true _ _ c.word_at-word.ensures c.first_at.ensures _ _
+          c.take_over-number.ensures;
     }

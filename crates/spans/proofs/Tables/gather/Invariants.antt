@@ -9,5 +9,6 @@ abbrev pub invariant-loop-place : goal.invariant-loop-place
 invariant-loop-place l = record {
   same : Same l.initial.self l.self;
   last : l.self.last.now ≡ l.initial.self.last.now;
-  gathered : GatheredTo l.nodes.firsts.now l.initial.self.many (l.initial.self.first.now ++ l.initial.self.last.now) l.self.last.now l.self.first.now l.number l.place;
+  gathered : GatheredTo l.nodes.firsts.now l.initial.self.many (l.initial.self.first.now ++ l.initial.self.last.now) l.self.last.now l.self.first.now
+      l.number l.place;
 }

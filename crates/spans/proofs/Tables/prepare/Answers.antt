@@ -4,6 +4,7 @@ use Rattle.tree.specs.Down.{the_nodes}
 use Rattle.spans.proofs.Finishing.{prepared_at}
 use Rattle.spans.proofs.Tables.prepare.Goals as goal
 
+-- what empties the tables is found, and not named: so one that is emptied otherwise is judged by what it holds
 pub returns-clause-prepared : goal.returns-clause-prepared
 returns-clause-prepared c =
     let t = c.args.self.now in

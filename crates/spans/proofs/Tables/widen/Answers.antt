@@ -23,5 +23,6 @@ loop-at-preserved c =
 pub returns-clause-widens : goal.returns-clause-widens
 returns-clause-widens c =
     let k = c.loop-at in
-    let whole : take (8 * k.at) c.args.places.now ≡ c.args.places.now = take_all _ _ (omega (arith, c.requires.whole_cells.0, c.loop-at-test.false)) in
+    let whole : take (8 * k.at) c.args.places.now ≡ c.args.places.now =
+    take_all _ _ (omega (arith, c.requires.whole_cells.0, c.loop-at-test.false)) in
     rw whole at k.invariant.widens
