@@ -43,6 +43,7 @@ pub struct Request {
 }
 
 // What a host keeps between two calls. `asked` is 0 where nothing is asked; the lengths are those of the start.
+// Kept: 0 and no `Option`, since it is one of the nine words that a C host keeps, of which any may come back.
 #[derive(Clone, Copy)]
 pub struct State {
     pub bound: u32,

@@ -31,6 +31,7 @@ fn fill<R: Read>(input: &mut R, buffer: &mut [u8]) -> io::Result<usize>
     ensures end { IfOk result (λ n. n < length buffer.new → IsAtEnd (R.remaining input.new)) }
 {
     let mut got = 0;
+    // Kept: how many reads it takes is known at the end alone; `read_exact` says little where the input is shorter.
     while got < buffer.len() {
         let n = input.read(&mut buffer[got..])?;
         if n == 0 {

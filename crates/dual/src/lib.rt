@@ -83,6 +83,7 @@ fn around(nodes: &Nodes, distances: &[f32], middle: u64, level: u32) -> Dual
     let mut levels = [0u32; 8];
     let mut ends = [0usize; 8];
     let mut above: usize = 8;
+    // Kept: no `for`, since it goes over the numbers that have no bit of `odd`, and not over all.
     while above > 0 {
         let j = (above - 1) & even;
         let node = nodes.go_down(level, 8 * (side(middle, j) / 8));

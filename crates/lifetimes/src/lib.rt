@@ -152,6 +152,7 @@ impl Halves<'_> {
         let mut levels = [0u8; 64];
         let mut places = [0usize; 512];
         let mut from: u64 = 0;
+        // Kept: how many batches come is known once one isn't full.
         loop {
             let came = vertices::cells_trusting(
                 &nodes,
@@ -289,6 +290,8 @@ fn have_room(leaves: usize, exponent: u32, first: &[u32], last: &[u32], needed: 
     leaves <= first.len() && leaves <= last.len() && 1 << exponent <= needed.len()
 }
 
+// Kept: a caller has the three tables apart and lends them to one call.
+
 // The report, for one who knows that the tree is sound; of other tables, what the same walk comes to.
 pub fn lifetimes_trusting(
     nodes: &Nodes,
@@ -321,6 +324,7 @@ pub fn lifetimes_trusting(
 }
 
 // Nothing to do: a proof knows of a parameter that its numbers fit 16 bits, and not of a slice in a struct.
+// Kept: the twin of the one in `spans`; as one public function it would owe edits, and a body that does nothing can't be made wrong.
 fn have_16_bits(firsts: &[u16])
     ensures { EachIndex firsts.now (λ i. slice_index firsts.now i < 2 ^ 16) }
 {}

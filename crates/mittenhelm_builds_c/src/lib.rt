@@ -1,5 +1,6 @@
 #![tactic(auto)]
 // The exports of mittenhelm_builds for C, as include/mittenhelm.h declares them: each says what the function that it calls says.
+// Kept: C lends each table and each place by itself.
 ghost use Rattle.std.specs.Prelude.{◌≡◌};
 ghost use Rattle.build.specs.Build.{tables_of};
 ghost use Rattle.mittenhelm_builds.specs.Words.{request_at, reply, start_replies, effect, distance_effect};

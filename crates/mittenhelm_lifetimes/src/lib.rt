@@ -1,5 +1,6 @@
 #![tactic(auto)]
 // The boundary for hosts, lifetimes of leaves: numbers and slices only. mittenhelm_lifetimes_c exports them to C.
+// Kept: C lends each table and each place by itself.
 ghost use Rattle.tree.specs.Tree.{tree_of};
 ghost use Rattle.tree.specs.Down.{nodes_of};
 ghost use Rattle.lifetimes.specs.Needed.{reports_of};

@@ -1,6 +1,7 @@
 #![tactic(auto)]
 // The exports of mittenhelm_lifetimes for C, as include/mittenhelm.h declares them: each says what the function that it calls says.
 // It is an object of its own, so that the other calls stay as they are.
+// Kept: C lends each table and each place by itself.
 ghost use Rattle.tree.specs.Tree.{tree_of};
 ghost use Rattle.tree.specs.Down.{nodes_of};
 ghost use Rattle.lifetimes.specs.Needed.{reports_of};

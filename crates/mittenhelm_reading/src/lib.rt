@@ -1,5 +1,6 @@
 #![tactic(auto)]
 // The boundary for hosts, reading: numbers and slices only. mittenhelm_reading_c exports them to C.
+// Kept: C lends each table and each place by itself.
 ghost use Rattle.tree.specs.Tree.{tree_of, Sound, Decides};
 ghost use Rattle.vertices.specs.Listing.{lists_of};
 ghost use Rattle.mittenhelm_reading.specs.Reading.{found_at, HandsFound, HandsLookup, eight_at, HandsEight, HandsDual, HandsList};

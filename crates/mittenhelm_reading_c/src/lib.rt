@@ -1,5 +1,6 @@
 #![tactic(auto)]
 // The exports of mittenhelm_reading for C, as include/mittenhelm.h declares them: each says what the function that it calls says.
+// Kept: C lends each table and each place by itself.
 ghost use Rattle.tree.specs.Tree.{tree_of, Sound, Decides};
 ghost use Rattle.vertices.specs.Listing.{lists_of};
 ghost use Rattle.mittenhelm_reading.specs.Reading.{found_at, HandsLookup, eight_at, HandsDual, HandsList};

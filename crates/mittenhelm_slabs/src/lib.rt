@@ -1,5 +1,6 @@
 #![tactic(auto)]
 // The boundary for hosts, slabs of cells: numbers and slices only. mittenhelm_slabs_c exports them to C.
+// Kept: C lends each table and each place by itself.
 ghost use Rattle.tree.specs.Tree.{tree_of};
 ghost use Rattle.tree.specs.Down.{nodes_of};
 ghost use Rattle.mittenhelm_slabs.specs.Spans.{span_at, HandsSpan, HandsSlabs, HandsTrustedSlabs};

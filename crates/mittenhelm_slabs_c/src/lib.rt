@@ -2,6 +2,7 @@
 // The exports of mittenhelm_slabs for C, as include/mittenhelm.h declares them: each says what the function that it calls says.
 // It is an object of its own: beside the calls for dual cells, the search that both make would be one function of that object and not part of
 // each call, and slower.
+// Kept: C lends each table and each place by itself.
 ghost use Rattle.tree.specs.Tree.{tree_of};
 ghost use Rattle.tree.specs.Down.{nodes_of};
 ghost use Rattle.mittenhelm_slabs.specs.Spans.{span_at, HandsSlabs, HandsTrustedSlabs};

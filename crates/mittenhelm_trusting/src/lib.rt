@@ -1,5 +1,6 @@
 #![tactic(auto)]
 // The boundary for hosts, reading a tree that was checked before: numbers and slices only. mittenhelm_trusting_c exports them to C.
+// Kept: C lends each table and each place by itself.
 ghost use Rattle.tree.specs.Down.{nodes_of};
 ghost use Rattle.tree.specs.Climb.{trusting_of};
 ghost use Rattle.vertices.specs.Listing.{lists_of};

@@ -1,5 +1,6 @@
 #![tactic(auto)]
 // The exports of mittenhelm_trusting for C, as include/mittenhelm.h declares them: each says what the function that it calls says.
+// Kept: C lends each table and each place by itself.
 ghost use Rattle.tree.specs.Down.{nodes_of};
 ghost use Rattle.tree.specs.Climb.{trusting_of};
 ghost use Rattle.vertices.specs.Listing.{lists_of};

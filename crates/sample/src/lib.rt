@@ -16,6 +16,7 @@ use std::io;
 use std::io::{ErrorKind, Read, Write};
 
 // The call of a text that is no line, as where the sample has ended; a line has two digits for its own.
+// Kept: no `Option`, since `parse` can't fail.
 pub const END: usize = 256;
 
 #[derive(Clone, Copy)]

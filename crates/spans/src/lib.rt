@@ -195,6 +195,7 @@ impl Tables<'_> {
         let mut places = [0usize; 8 * BATCH];
         let mut from: u64 = 0;
         have_16_bits(nodes.firsts);
+        // Kept: how many batches come is known once one isn't full.
         loop {
             let came = vertices::cells_trusting(
                 nodes,

@@ -404,6 +404,8 @@ fn list_has_room(nodes: &Nodes, start: usize, len: usize) -> bool
     has_room(len, start, n)
 }
 
+// Kept: the tables that a caller lends to this call and the next two are parameters, since a caller has them apart and lends them to one call.
+
 // The list of a tree's vertices, written from a start place on, for one who knows that the tree is sound; of other tables, what the same walk comes
 // to.
 pub fn list_trusting(
