@@ -63,6 +63,7 @@ impl Text {
         }
     }
 
+    // Kept: `write!` may fail, and its contract says nothing of the text then, where a line always has its room.
     fn put_decimal(&mut self, n: u64)
         requires { length self.old + length (decimal n) ≤ 64 }
         ensures { self.new ≡ self.old ++ decimal n }
@@ -117,6 +118,7 @@ fn counts(nodes: usize, leaves: usize, vertices: usize) -> Text
 // ---- the build
 
 // Little-endian.
+#[tactic(auto, unfolding(crate::specs::Printed::little_endian))]
 fn distance(four: [u8; 4]) -> f32
     ensures { result ≡ float_of four }
 {
@@ -128,7 +130,8 @@ fn drive(bound: u8, bytes: &[u8], tables: &mut Tables) -> Result<Answer, Refusal
     ensures { outcome result (tables_in tables.new)
         ≡ after_all (distances_in bytes.now) (outcome (start_of bound (tables_in tables.old)) (tables_in tables.old)) }
 {
-    let mut answer = build::start(u32::from(bound), tables.lengths())?;
+    let bound = u32::from(bound);
+    let mut answer = build::start(bound, tables.lengths())?;
     let (fours, _) = bytes.as_chunks::<4>();
     for four in fours {
         let Answer::Ask(_, s) = answer else {

@@ -117,6 +117,7 @@ fn digit(b: u8) -> u64
     ensures value { result ≡ digit_of b }
     ensures bound { result < 16 }
 {
+    // Kept: std's `to_digit` takes A to F for digits too.
     match b {
         b'0'..=b'9' => u64::from(b - b'0'),
         b'a'..=b'f' => u64::from(b - b'a' + 10),

@@ -9,7 +9,7 @@ use Rattle.counting.proofs.drive.Goals as goal
 use Rattle.counting.proofs.drive.Goals.{After-start, After-distance-in-loop-four}
 
 begun : (c : After-start) → c.start.result ≡ start_of c.args.bound (tables_in c.args.tables.now)
-begun c = started _ c.start.ensures c.from.ensures c.lengths.ensures
+begun c = started _ c.start.ensures c.from-bound.ensures c.lengths.ensures
 
 pub returns-in_err-answer : goal.returns-in_err-answer
 returns-in_err-answer c =

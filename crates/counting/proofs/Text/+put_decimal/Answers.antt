@@ -1,6 +1,6 @@
 -- `put_decimal` meets its contract, and ends: a tenth has a digit less. Assumes nothing.
 use Rattle.std.proofs.Common.{◌≡◌, ◌%◌, ◌∙◌, length, ap, arith, length-append, append_assoc}
-use Rattle.counting.proofs.Texts.{decimal_small, decimal_more, decimal_length}
+use Rattle.counting.proofs.Decimals.{decimal_small, decimal_more, decimal_length}
 use Rattle.counting.proofs.Text.+put_decimal.Goals as goal
 use Rattle.counting.proofs.Text.+put_decimal.Goals.{then-n-ge10, else-n-ge10}
 

@@ -1,6 +1,6 @@
 -- There is room for twenty digits and a byte. Assumes nothing.
 use Rattle.std.proofs.Common.{arith, length-append}
-use Rattle.counting.proofs.Texts.{decimal_most}
+use Rattle.counting.proofs.Decimals.{decimal_most}
 use Rattle.counting.proofs.Text.put_number.Goals as goal
 
 pub put_decimal-requires : goal.put_decimal-requires

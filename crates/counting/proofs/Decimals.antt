@@ -1,4 +1,4 @@
--- The decimals of a number, and how long lines are. Assumes nothing.
+-- The decimals of a number. Assumes nothing.
 use Prim.Native.Nat.{ℕ, zero, suc, ◌+◌, ◌/◌, ◌%◌, ◌^◌, ◌≤◌, ◌<◌}
 use mathlib.Core.Path.{◌≡◌, refl, sym, ◌∙◌, ap}
 use mathlib.Core.Bool.{Bool, true, false, cond}
@@ -9,9 +9,7 @@ use native.Mathlib.Decide.{dec_lt}
 use lib.Dec.{ltb}
 use lib.ListN.{length, length-append}
 use borrow.Author.Tests.{lt-ltb, le-ltb}
-use Rattle.counting.specs.Printed.{decimal_to, decimal, short_line, refused_line, counts_line, tree_line}
-
--- ---- decimals
+use Rattle.counting.specs.Printed.{decimal_to, decimal}
 
 decimal_step : (k n : ℕ) → decimal_to (suc k) n ≡ cond (ltb n 10) ((48 + n) ∷ []) (decimal_to k (n / 10) ++ ((48 + n % 10) ∷ []))
 unfolding decimal_to
@@ -63,34 +61,3 @@ digits_most (suc k) n =
 pub decimal_most : (n : ℕ) → length (decimal n) ≤ 20
 unfolding decimal
 decimal_most n = digits_most 20 n
-
--- ---- lines
-
-pub short_fits : length short_line ≤ 64
-unfolding short_line
-short_fits = omega arith
-
-pub refused_fits : (k : ℕ) → length (refused_line k) ≤ 64
-unfolding refused_line
-refused_fits k = omega (arith, decimal_most k, length-append (decimal k) (10 ∷ []))
-
-pub counts_fits : (n m v : ℕ) → length (counts_line n m v) ≤ 64
-unfolding counts_line
-counts_fits n m v =
-    omega (
-      arith,
-      decimal_most n,
-      decimal_most m,
-      decimal_most v,
-      length-append (decimal n) (32 ∷ (decimal m ++ (32 ∷ (decimal v ++ (10 ∷ []))))),
-      length-append (decimal m) (32 ∷ (decimal v ++ (10 ∷ []))),
-      length-append (decimal v) (10 ∷ []),
-    )
-
-pub tree_fits : (n m v : ℕ) → length (tree_line n m v) ≤ 64
-unfolding tree_line
-tree_fits n m v = go (ltb 1024 v) _ _ (refused_fits 12) (counts_fits n m v)
-  where
-    go : (b : Bool) (xs ys : List ℕ) → length xs ≤ 64 → length ys ≤ 64 → length (cond b xs ys) ≤ 64
-    go true xs ys p q = p
-    go false xs ys p q = q
