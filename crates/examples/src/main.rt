@@ -5,7 +5,7 @@ ghost use Rattle.std.specs.Prelude.{◌<◌, ◌≤◌};
 
 use build::{Answer, Tables};
 use dual::Dual;
-use morton::Key;
+use morton::{Key, Vec3};
 use refusals::Refusal;
 use slabs::Reach;
 use std::io;
@@ -17,17 +17,11 @@ fn say(rt: &impl Print, example: &[u8], holds: bool) -> io::Result<()> {
 }
 
 fn centre_is(key: u64, x: f32, y: f32, z: f32) -> bool {
-    match (Key { code: key }).centre() {
-        Ok(p) => p.x == x && p.y == y && p.z == z,
-        Err(_) => false,
-    }
+    Key { code: key }.centre() == Ok(Vec3 { x, y, z })
 }
 
 fn half_size_is(key: u64, half: f32) -> bool {
-    match (Key { code: key }).half_size() {
-        Ok(h) => h == half,
-        Err(_) => false,
-    }
+    Key { code: key }.half_size() == Ok(half)
 }
 
 fn is_split(key: u64, bound: u32, distance: f32) -> bool {
@@ -91,19 +85,12 @@ impl Trial {
 
     // A finished build was given a distance for each node.
     fn is_finished(self, nodes: usize, leaves: usize) -> bool {
-        match self.answer {
-            Ok(Answer::Finished(s)) => {
-                s.nodes == nodes && s.leaves == leaves && self.given == nodes as u64
-            }
-            _ => false,
-        }
+        matches!(self.answer, Ok(Answer::Finished(s)) if s.nodes == nodes && s.leaves == leaves)
+            && self.given == nodes as u64
     }
 
     fn is_refused(self, refusal: Refusal, given: u64) -> bool {
-        match self.answer {
-            Ok(_) => false,
-            Err(e) => e == refusal && self.given == given,
-        }
+        matches!(self.answer, Err(e) if e == refusal) && self.given == given
     }
 }
 
@@ -224,25 +211,15 @@ fn grows(bound: u32, field: Field, tables: &mut Tables, count: usize) -> bool {
 }
 
 fn finds(tree: &Tree, key: u64, deepest: u64, at: usize, tries: u32) -> bool {
-    match tree.look_up(key) {
-        Ok(
-            Lookup::Found {
-                key: k,
-                distance: _,
-                place: p,
-                tried: n,
-            },
-        ) => k == deepest && p == at && n == tries,
-        _ => false,
-    }
+    matches!(
+        tree.look_up(key),
+        Ok(Lookup::Found { key, place, tried, .. }) if key == deepest && place == at && tried == tries
+    )
 }
 
 // The vertex at corner 7 of a cell of level 3; 0, which is no vertex, where there is none.
 fn far_corner(key: u64) -> u64 {
-    match (Key { code: key }).vertex(3, 7) {
-        Ok(vertex) => vertex.code,
-        Err(_) => 0,
-    }
+    Key { code: key }.vertex(3, 7).map_or(0, |v| v.code)
 }
 
 // Whether the dual cell of that corner has these nodes, at these places.
@@ -261,10 +238,11 @@ fn is_empty(cell: Dual, refusal: Refusal) -> bool {
 
 // The slabs that the cell of the vertex at corner 7 of a cell of level 3 reaches.
 fn reaches(nodes: &Nodes, key: u64, exponent: u32, low: u32, high: u32) -> bool {
-    match slabs::slabs_trusting(nodes, far_corner(key), 3, exponent) {
-        Ok(Reach { first, last }) => first == low && last == high,
-        Err(_) => false,
-    }
+    slabs::slabs_trusting(nodes, far_corner(key), 3, exponent)
+        == Ok(Reach {
+            first: low,
+            last: high,
+        })
 }
 
 fn say_of_slabs(rt: &impl Print, nodes: &Nodes) -> io::Result<()> {
