@@ -67,7 +67,8 @@ module _ (ks : Nodes) where
       go true e = subst (Within l c) (sym (ending_one ks l c e)) (omega arith, wide)
       go false e = subst (Within l c) (sym (ending_none ks l c e)) (within_none l c)
 
-  within_turn : (l c n : ℕ) (g : ℕ → List Spot) → l < deepest → ((q : ℕ) → Within (suc l) (8 * c + q) (g q)) → Apart (low_corner l c) (low_corner (suc l) (8 * c + n)) (in_turn g n)
+  within_turn : (l c n : ℕ) (g : ℕ → List Spot) → l < deepest → ((q : ℕ) → Within (suc l) (8 * c + q) (g q))
+      → Apart (low_corner l c) (low_corner (suc l) (8 * c + n)) (in_turn g n)
   unfolding in_turn Apart
   within_turn l c zero g h each = omega (arith, corner_first l c h, corner_add (suc l) (8 * c) 0)
   within_turn l c (suc n) g h each =
@@ -83,7 +84,8 @@ module _ (ks : Nodes) where
       go false e = subst (Within l c) (sym (walked_end ks l c 0 e)) (within_ending l c (omega arith))
   within_walked (suc f) l c h = go (divided ks l c) refl (λ q. within_walked f (suc l) (8 * c + q) (omega arith))
     where
-      go : (r : Bool) → divided ks l c ≡ r → ((q : ℕ) → Within (suc l) (8 * c + q) (walked f ks (suc l) (8 * c + q))) → Within l c (walked (suc f) ks l c)
+      go : (r : Bool) → divided ks l c ≡ r → ((q : ℕ) → Within (suc l) (8 * c + q) (walked f ks (suc l) (8 * c + q)))
+          → Within l c (walked (suc f) ks l c)
       go true e each =
           subst (Within l c) (sym (walked_on ks l c f e))
           (subst (λ (hi : ℕ). Apart (low_corner l c) hi (in_turn (λ q. walked f ks (suc l) (8 * c + q)) 8)) (corner_last l c (omega arith))
@@ -181,7 +183,8 @@ module _ (ks : Nodes) (from : ℕ) (past ahead : List Spot) (g : Gone ks from pa
     came_count = ap length (sym wanted_came) ∙ sym says.count
 
     -- what stands first in a table that the call wrote to
-    came_first : (of : List Spot → List ℕ) (before after : List ℕ) (m : ℕ) → after ≡ written before 0 (of (wanted from (room_of was) (spots_of ks))) → length (of came) ≡ m
+    came_first : (of : List Spot → List ℕ) (before after : List ℕ) (m : ℕ) → after ≡ written before 0 (of (wanted from (room_of was) (spots_of ks)))
+        → length (of came) ≡ m
         → take m after ≡ of came
     came_first of before after m e l =
         ap (take m) (e ∙ ap (λ (ss : List Spot). written before 0 (of ss)) wanted_came) ∙ take_at (of came) (drop (0 + length (of came)) before) m l

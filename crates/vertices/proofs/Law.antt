@@ -88,8 +88,10 @@ module _ (ks : Nodes) where
         ]
 
     -- what holds of the walk over a sound tree
-    pub walk_sound : (P : ℕ → ℕ → List Spot → Type 0) → ((l c : ℕ) → l ≤ limit → Cell l c × Fresh ks l c → divided ks l c ≡ false → P l c (ending ks l c))
-        → ((l c : ℕ) → l < limit → (g : ℕ → List Spot) → ((q : ℕ) → q < 8 → P (suc l) (8 * c + q) (g q)) → P l c (in_turn g 8)) → P 0 1 (spots_of ks)
+    pub walk_sound : (P : ℕ → ℕ → List Spot → Type 0)
+        → ((l c : ℕ) → l ≤ limit → Cell l c × Fresh ks l c → divided ks l c ≡ false → P l c (ending ks l c))
+        → ((l c : ℕ) → l < limit → (g : ℕ → List Spot) → ((q : ℕ) → q < 8 → P (suc l) (8 * c + q) (g q)) → P l c (in_turn g 8))
+        → P 0 1 (spots_of ks)
     unfolding spots_of
     walk_sound P end on =
         walk_ind ks (λ l c. Cell l c × Fresh ks l c) P
@@ -97,7 +99,8 @@ module _ (ks : Nodes) where
         (λ l c e a d. absurd (omega (arith, divided_lt l c a.1 d))) on limit 0 1 (omega arith)
         (record { low = omega arith; high = omega arith }, λ z. absurd (omega arith))
 
-    spots_end : (l c : ℕ) → l ≤ limit → Cell l c × Fresh ks l c → divided ks l c ≡ false → Spots (low_corner l c) (low_corner l (c + 1)) (ending ks l c)
+    spots_end : (l c : ℕ) → l ≤ limit → Cell l c × Fresh ks l c → divided ks l c ≡ false
+        → Spots (low_corner l c) (low_corner l (c + 1)) (ending ks l c)
     unfolding vertices_of levels_of
     spots_end l c hl a d =
         let blk : Block ks l c = block_of ks t l c a.1 in
@@ -125,7 +128,9 @@ module _ (ks : Nodes) where
     spots_walked : Spots (low_corner 0 1) (low_corner 0 2) (spots_of ks)
     spots_walked =
         walk_sound (λ l c. Spots (low_corner l c) (low_corner l (c + 1))) spots_end
-        (λ l c h g each. subst (λ (k : ℕ). Spots (low_corner l c) k (in_turn g 8)) (corner_last l c (omega arith)) (spots_turn l c 8 g (omega arith) (omega arith) each))
+        (λ l c h g each.
+        subst (λ (k : ℕ). Spots (low_corner l c) k (in_turn g 8)) (corner_last l c (omega arith))
+        (spots_turn l c 8 g (omega arith) (omega arith) each))
 
 -- ---- the whole tree
 
@@ -135,7 +140,8 @@ spots_listed t s =
     (spots_walked (nodes t) (record { distances = t.distances; leaves = t.leaves; sound = s }))
 
 -- of a sound tree the list of one who trusts is the list
-pub trusting_list : (t : Tree) → Sound t → (start : ℕ) (was left : Lists) (r : Result ℕ Refusal) → TrustingSays (nodes t) start was left r → ListSays t start was left r
+pub trusting_list : (t : Tree) → Sound t → (start : ℕ) (was left : Lists) (r : Result ℕ Refusal) → TrustingSays (nodes t) start was left r
+    → ListSays t start was left r
 trusting_list t s start was left (Ok n) a = (
   s,
   record {

@@ -180,22 +180,27 @@ module _ (ks : Nodes) where
     unfolding visited
     most_on f each e =
         let next : (q : ℕ) → low_corner (suc l) (8 * c + q + 1) ≡ low_corner (suc l) (8 * c + suc q) = λ q. ap (low_corner (suc l)) (omega arith) in
-        let begins : (q : ℕ) → count 8 mark (32 * low_corner (suc l) (8 * c + q) + suc l) ≤ count 8 mark (cut q) = λ q. above_le 8 mark (8 * blocks) _ _ (omega arith) in
-        let ends : (q : ℕ) → count 8 mark (cut (suc q)) ≤ count 8 mark (32 * low_corner (suc l) (8 * c + q + 1)) = λ q. above_le 8 mark (8 * blocks) _ _ (omega (arith, next q)) in
+        let begins : (q : ℕ) → count 8 mark (32 * low_corner (suc l) (8 * c + q) + suc l) ≤ count 8 mark (cut q) =
+        λ q. above_le 8 mark (8 * blocks) _ _ (omega arith) in
+        let ends : (q : ℕ) → count 8 mark (cut (suc q)) ≤ count 8 mark (32 * low_corner (suc l) (8 * c + q + 1)) =
+        λ q. above_le 8 mark (8 * blocks) _ _ (omega (arith, next q)) in
         record {
           cells =
               rw e
               (omega (
                 arith,
-                turns (λ q. visited f ks (suc l) (8 * c + q)) (λ q. 8 * count 8 mark (cut q) + (8 - q)) 8 (λ q g. omega (arith, (each q g).cells, begins q, ends q)),
-                above_in 8 mark (8 * blocks) (32 * low_corner l c + l) _ (cut 0) (divided_in l c h cc e) (omega arith) (omega (arith, corner_le l c (omega arith) 0)),
+                turns (λ q. visited f ks (suc l) (8 * c + q)) (λ q. 8 * count 8 mark (cut q) + (8 - q)) 8
+                    (λ q g. omega (arith, (each q g).cells, begins q, ends q)),
+                above_in 8 mark (8 * blocks) (32 * low_corner l c + l) _ (cut 0) (divided_in l c h cc e) (omega arith)
+                    (omega (arith, corner_le l c (omega arith) 0)),
                 above_le 8 mark (8 * blocks) (cut 8) (32 * low_corner l (c + 1)) (omega (arith, corner_last l c (omega arith))),
               ));
           spots =
               omega (
                 arith,
                 ap length (walked_on ks l c f e) ∙ turn_lengths (λ q. walked f ks (suc l) (8 * c + q)) 8,
-                turns (λ q. length (walked f ks (suc l) (8 * c + q))) (λ q. count 19 middle (low_corner (suc l) (8 * c + q))) 8 (λ q g. omega (arith, (each q g).spots, ap (count 19 middle) (next q))),
+                turns (λ q. length (walked f ks (suc l) (8 * c + q))) (λ q. count 19 middle (low_corner (suc l) (8 * c + q))) 8
+                    (λ q g. omega (arith, (each q g).spots, ap (count 19 middle) (next q))),
                 above_le 19 middle (19 * blocks) (low_corner l c) (low_corner (suc l) (8 * c + 0)) (corner_le l c (omega arith) 0),
                 ap (count 19 middle) (corner_last l c (omega arith)),
               );

@@ -82,9 +82,12 @@ module _ (ks : Nodes) where
         marks r zero h = marked_first ∙ sym (split_root ∙ r)
         marks r (suc o) h = marked_one (suc o) (omega arith) ∙ sym (split_rest o h)
 
-        stands : (o : ℕ) → o < 8 → get_or (p ∷ 0 ∷ 0 ∷ 0 ∷ 0 ∷ 0 ∷ 0 ∷ 0 ∷ []) o 0 ≡ if₀ (marked 1 o) (first_at ks (place_at ks 0 1 o)) (place_at ks 0 1 o)
+        stands : (o : ℕ) → o < 8
+            → get_or (p ∷ 0 ∷ 0 ∷ 0 ∷ 0 ∷ 0 ∷ 0 ∷ 0 ∷ []) o 0 ≡ if₀ (marked 1 o) (first_at ks (place_at ks 0 1 o)) (place_at ks 0 1 o)
         stands zero h =
-            e ∙ ap (λ (n : ℕ). get_or ks.firsts n 0) (sym place_root) ∙ sym (ap (λ (r : Bool). if₀ r (first_at ks (place_at ks 0 1 0)) (place_at ks 0 1 0)) marked_first)
+            e
+            ∙ ap (λ (n : ℕ). get_or ks.firsts n 0) (sym place_root)
+            ∙ sym (ap (λ (r : Bool). if₀ r (first_at ks (place_at ks 0 1 0)) (place_at ks 0 1 0)) marked_first)
         stands (suc o) h =
             eight_at_lem (root_at p) (suc o) h
             ∙ sym (place_out ks 0 1 (suc o) (root_out o h))

@@ -130,7 +130,8 @@ module _ (n : Nodes) where
       ap (λ (k : ℕ). take 8 (drop k (round_of n s ++ ps))) e ∙ ap (take 8) (drop-append-add (round_of n s) ps (8 * j))
 
   -- vertex j of some, with the eight places that go with it
-  of_spots : (ss : List Spot) → Each Round ss → (j : ℕ) → j < length ss → Placed n (get_or (levels_of ss) j 0) (get_or (vertices_of ss) j 0) (places_at j (places_of n ss))
+  of_spots : (ss : List Spot) → Each Round ss → (j : ℕ) → j < length ss
+      → Placed n (get_or (levels_of ss) j 0) (get_or (vertices_of ss) j 0) (places_at j (places_of n ss))
   unfolding levels_of vertices_of places_of
   of_spots [] a j h = absurd (omega arith)
   of_spots (s ∷ ss) a zero h = subst (Placed n s.level s.vertex) (sym (eight_first s (places_of n ss))) a.0
@@ -158,7 +159,8 @@ module _ (n : Nodes) where
       short = omega (arith, says.count)
 
       -- in a table that the call wrote to
-      at_first : (of : List Spot → List ℕ) (before : List ℕ) {after : List ℕ} → after ≡ written before 0 (of some) → length (of some) ≡ length some → get_or after j 0 ≡ get_or (of some) j 0
+      at_first : (of : List Spot → List ℕ) (before : List ℕ) {after : List ℕ} → after ≡ written before 0 (of some) → length (of some) ≡ length some
+          → get_or after j 0 ≡ get_or (of some) j 0
       at_first of before e l = ap (λ (xs : List ℕ). get_or xs j 0) e ∙ get_or-append (of some) (drop (0 + length (of some)) before) 0 j (omega (arith, short))
 
       places_first : places_at j left.places ≡ places_at j (places_of n some)

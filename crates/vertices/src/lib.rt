@@ -393,7 +393,7 @@ fn most_vertices(keys: usize) -> usize
 }
 
 // Whether the list has room in tables of so many places. Only where there is less room than for the most vertices that there can be are they counted,
-// into tables that don't leave the call.
+// into no tables.
 fn list_has_room(nodes: &Nodes, start: usize, len: usize) -> bool
     ensures { Decides result (start + length (spots_of (the_nodes nodes.now)) ≤ len) }
 {
