@@ -7,7 +7,7 @@ use Rattle.tree.specs.Down.{Nodes}
 use Rattle.tree.proofs.Lists.{order}
 use Rattle.lifetimes.specs.Needed.{GreatestOf, how_many, needed_at, count_at, Counts}
 use Rattle.lifetimes.specs.Steps.{Differs, starts_at, ends_at, most_in, Counted, SpansLeft, ReportLeft}
-use Rattle.lifetimes.proofs.HowMany.{same, passed, failed, at_most, alike}
+use Rattle.spans.proofs.HowMany.{same, passed, failed, at_most, alike}
 
 -- ---- tests
 

@@ -3,7 +3,7 @@ use Rattle.std.proofs.Common.{◌≡◌, ℕ, ◌+◌, ◌*◌, ◌<◌, ◌≤�
 use Rattle.tree.proofs.Lists.{order}
 use Rattle.lifetimes.specs.Trusted.{leaves_of, LeafAt}
 use Rattle.lifetimes.specs.Steps.{upper, Finds, Edge, NoMore, NoLess, Meets, MeetingSays, Among, Pulled, PullSays, Widened}
-use Rattle.lifetimes.proofs.HowMany.{same}
+use Rattle.spans.proofs.HowMany.{same}
 use Rattle.lifetimes.proofs.Numbers.{leaf_one}
 
 -- ---- one lemma for least and greatest

@@ -10,7 +10,7 @@ use Rattle.tree.proofs.Lists.{order, in_cast, stands_in, ascending_place}
 use Rattle.tree.proofs.Pass.{Walked, start, all_eight, not_too_deep, leaf_next, no_more_keys, no_more_leaves, first_here, first_none, after_split, after_leaf}
 use Rattle.lifetimes.specs.Needed.{how_many}
 use Rattle.lifetimes.specs.Trusted.{nodes_in, leaves_of, number_of, LeafAt}
-use Rattle.lifetimes.proofs.Numbers.{number_leaf, number_other}
+use Rattle.spans.proofs.Numbers.{number_leaf, number_other}
 
 stands_or_not : (ks : List ℕ) (p k : ℕ) → StandsAt ks p k ⊎ (StandsAt ks p k → ⊥)
 stands_or_not ks p k =

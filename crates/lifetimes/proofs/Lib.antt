@@ -1,5 +1,4 @@
 -- The laws behind `lifetimes`.
-pub mod HowMany
 pub mod Same
 pub mod Numbers
 pub mod Edges

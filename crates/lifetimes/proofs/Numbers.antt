@@ -1,38 +1,15 @@
 -- The numbers and slabs of the leaves, as they are taken down. Assumes nothing.
-use Rattle.std.proofs.Common.{◌≡◌, ℕ, zero, suc, ◌+◌, ◌-◌, ◌*◌, ◌^◌, ◌<◌, ◌≤◌, min, List, length, get_or, set, replicate, sym, refl, ap, ◌∙◌, subst, inl, inr, ⊎_elim, arith, length-set, get_or-set_other, get_or-set_same, pow_mono, eq-eqb, ne_eqb}
+use Rattle.std.proofs.Common.{◌≡◌, ℕ, ◌+◌, ◌-◌, ◌*◌, ◌^◌, ◌<◌, ◌≤◌, min, List, length, get_or, set, replicate, sym, refl, ap, ◌∙◌, subst, inl, inr, ⊎_elim, arith, length-set, get_or-set_other, get_or-set_same, pow_mono}
 use lib.ListN.{length-replicate, get_or-replicate}
 use Rattle.morton.specs.Level.{limit}
 use Rattle.tree.proofs.Lists.{order}
 use Rattle.slabs.specs.Heights.{slab_of, slab_at}
 use Rattle.slabs.proofs.Order.{slab_lt, at_within}
 use Rattle.lifetimes.specs.Needed.{how_many}
-use Rattle.lifetimes.specs.Trusted.{leaves_of, childless, number_of, LeafAt}
+use Rattle.lifetimes.specs.Trusted.{leaves_of, number_of, LeafAt}
 use Rattle.lifetimes.specs.Steps.{upper, lower, slot_of, early, Numbering, PutLeaf}
-use Rattle.lifetimes.proofs.HowMany.{same, passed, failed}
-
--- ---- counting leaves
-
-module _ (fs : List ℕ) (p : ℕ) where
-  pub number_leaf : get_or fs p 0 ≡ 0 → number_of fs (p + 1) ≡ number_of fs p + 1
-  number_leaf e = passed (childless fs) p (eq-eqb (get_or fs p 0) 0 e)
-
-  pub number_other : (get_or fs p 0 ≡ 0 → ⊥) → number_of fs (p + 1) ≡ number_of fs p
-  number_other e = failed (childless fs) p (ne_eqb (get_or fs p 0) 0 e)
-
-  number_next : number_of fs p ≤ number_of fs (p + 1)
-  number_next = ⊎_elim (λ e. omega (arith, number_leaf e)) (λ e. omega (arith, number_other e)) (same (get_or fs p 0) 0)
-
-pub number_mono : (fs : List ℕ) (p d : ℕ) → number_of fs p ≤ number_of fs (p + d)
-number_mono fs p zero = let e : p + 0 ≡ p = omega arith in omega (arith, ap (number_of fs) e)
-number_mono fs p (suc d) =
-    let e : p + suc d ≡ p + d + 1 = omega arith in
-    omega (arith, number_mono fs p d, number_next fs (p + d), ap (number_of fs) e)
-
--- a leaf's number is below those of later places
-pub number_below : (fs : List ℕ) (q p : ℕ) → q < p → get_or fs q 0 ≡ 0 → number_of fs q < number_of fs p
-number_below fs q p h e =
-    let d : q + 1 + (p - (q + 1)) ≡ p = omega arith in
-    omega (arith, number_leaf fs q e, number_mono fs (q + 1) (p - (q + 1)), ap (number_of fs) d)
+use Rattle.spans.proofs.HowMany.{same}
+use Rattle.spans.proofs.Numbers.{number_leaf, number_other, number_below}
 
 pub leaf_one : {fs : List ℕ} {nodes p i j : ℕ} → LeafAt fs nodes p i → LeafAt fs nodes p j → i ≡ j
 leaf_one a b = sym a.number ∙ b.number

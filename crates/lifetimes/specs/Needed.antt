@@ -1,11 +1,13 @@
 -- From which slab to which slab each leaf is needed, said from the cells and not from the search. Assumes nothing.
-use Rattle.std.specs.Prelude.{◌≡◌, ℕ, zero, suc, ◌+◌, ◌^◌, ◌<◌, ◌≤◌, Bool, cond, ◌&&◌, ◌⊎◌, List, length, nat_le, slice_index, Float, Result, Ok, Err}
+use Rattle.std.specs.Prelude.{◌≡◌, ℕ, ◌^◌, ◌<◌, ◌≤◌, Bool, ◌&&◌, ◌⊎◌, List, length, nat_le, slice_index, Float, Result, Ok, Err}
 use Rattle.morton.specs.Level.{limit}
 use Rattle.tree.specs.Tree.{Tree, StandsAt, In, Sound}
 use Rattle.geometry.specs.Listing.{Listed}
 use Rattle.vertices.specs.Listing.{written}
 use Rattle.dual.specs.Dual.{DualCell}
 use Rattle.slabs.specs.Heights.{reach, SlabsSays}
+pub use Rattle.spans.specs.Least.{LeastOf, GreatestOf}
+unfoldable pub use Rattle.spans.specs.Least.{how_many}
 use Rattle.refusals.specs.declared.Refusal.{Refusal}
 use Rattle.refusals.specs.declared.Refusal.TheVariants.{AboveFifteen, NotSound, ReportShort}
 
@@ -35,15 +37,6 @@ pub record CellOf (t : Tree) (s k first last : ℕ) : Type 0 where
   pub has : Has t vertex level k
   pub slabs : SlabsSays t level vertex s (reach first last)
 
--- The least number of a kind, and the greatest.
-pub record LeastOf (Kind : ℕ → Type 0) (x : ℕ) : Type 0 where
-  pub one_of : Kind x
-  pub least : (y : ℕ) → Kind y → x ≤ y
-
-pub record GreatestOf (Kind : ℕ → Type 0) (x : ℕ) : Type 0 where
-  pub one_of : Kind x
-  pub greatest : (y : ℕ) → Kind y → y ≤ x
-
 -- A leaf's first slab is the least first slab over all listed cells that have it, its last the greatest last.
 pub record SpanOf (t : Tree) (s k first last : ℕ) : Type 0 where
   pub from : LeastOf (λ x. (y : ℕ) × CellOf t s k x y) first
@@ -64,11 +57,6 @@ pub record Spans (t : Tree) (s : ℕ) (firsts lasts : List ℕ) : Type 0 where
       ⊎ Never t s (slice_index t.leaves i) (slice_index firsts i) (slice_index lasts i)
 
 -- ---- how many are needed
-
--- How many numbers below n pass a test.
-unfoldable pub how_many : (ℕ → Bool) → ℕ → ℕ
-how_many test zero = 0
-how_many test (suc n) = how_many test n + cond (test n) 1 0
 
 -- Leaf i is needed at each slab from its first to its last.
 abbrev pub needed_at : List ℕ → List ℕ → ℕ → ℕ → Bool

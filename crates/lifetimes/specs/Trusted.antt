@@ -1,36 +1,14 @@
 -- The same on any tables at all, where no tree need be sound. Assumes nothing.
-use Rattle.std.specs.Prelude.{◌≡◌, ℕ, ◌-◌, ◌/◌, ◌<◌, ◌≤◌, min, Bool, ◌⊎◌, List, length, ◌==◌, slice_index, slice_index_or, Result, Ok, Err}
+use Rattle.std.specs.Prelude.{◌≡◌, ℕ, ◌/◌, ◌<◌, ◌≤◌, ◌⊎◌, List, length, slice_index, Result, Ok, Err}
 use Rattle.morton.specs.Level.{limit}
 use Rattle.tree.specs.Down.{Nodes}
 use Rattle.vertices.specs.Walk.{spots_of}
 use Rattle.vertices.specs.Cells.{places_of}
 use Rattle.slabs.specs.Heights.{slab_of}
+pub use Rattle.spans.specs.Trusted.{nodes_in, leaves_of, childless, number_of, LeafAt}
 use Rattle.refusals.specs.declared.Refusal.{Refusal}
 use Rattle.refusals.specs.declared.Refusal.TheVariants.{AboveFifteen, ReportShort}
-use Rattle.lifetimes.specs.Needed.{LeastOf, GreatestOf, how_many, Counts, Reports, Room, stands}
-
--- No sound tree has more nodes: the place of a first child has 16 bits.
-abbrev pub nodes_in : Nodes → ℕ
-nodes_in n = min (length n.keys) 65537
-
--- So many leaves a sound tree of so many nodes has.
-abbrev pub leaves_of : ℕ → ℕ
-leaves_of nodes = nodes - (nodes - 1) / 8
-
--- No first child stands beside the node at a place.
-abbrev pub childless : List ℕ → ℕ → Bool
-childless firsts p = slice_index firsts p == 0
-
--- The number of a leaf, which is its place in the leaf table: how many childless nodes stand before it.
-abbrev pub number_of : List ℕ → ℕ → ℕ
-number_of firsts p = how_many (childless firsts) p
-
--- Leaf i of so many nodes stands at place p.
-pub record LeafAt (firsts : List ℕ) (nodes p i : ℕ) : Type 0 where
-  pub inside : p < nodes
-  pub alone : slice_index_or firsts p 0 ≡ 0
-  pub number : number_of firsts p ≡ i
-  pub few : i < leaves_of nodes
+use Rattle.lifetimes.specs.Needed.{LeastOf, GreatestOf, Counts, Reports, Room, stands}
 
 -- In a table with the eight places of cell after cell: a cell has leaf i, and has a leaf whose slab is y. Entry e is of cell e / 8.
 pub record Beside (firsts : List ℕ) (nodes : ℕ) (slab : ℕ → ℕ) (places : List ℕ) (i y : ℕ) : Type 0 where
