@@ -290,7 +290,7 @@ fn have_room(leaves: usize, exponent: u32, first: &[u32], last: &[u32], needed: 
     leaves <= first.len() && leaves <= last.len() && 1 << exponent <= needed.len()
 }
 
-// Kept: a caller has the three tables apart and lends them to one call.
+// Kept: no plainer. Of the three tables a caller would make a struct for the one call, and the promise would say besides that it holds the same tables.
 
 // The report, for one who knows that the tree is sound; of other tables, what the same walk comes to.
 pub fn lifetimes_trusting(

@@ -16,7 +16,7 @@ use std::io;
 use std::io::{ErrorKind, Read, Write};
 
 // The call of a text that is no line, as where the sample has ended; a line has two digits for its own.
-// Kept: no `Option`, since `parse` can't fail.
+// Kept: no `Option`, since `line_of` gives every text a line, and the edit `parse_takes_any_text` holds that one without a newline is this one.
 pub const END: usize = 256;
 
 #[derive(Clone, Copy)]

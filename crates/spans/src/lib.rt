@@ -79,6 +79,7 @@ fn raised(a: u32, b: u32) -> u32
 }
 
 // Does nothing: of a slice in a struct no proof knows how large its numbers are, of a parameter it does.
+// Kept: the twin of the one in `lifetimes`, which says why.
 fn have_16_bits(firsts: &[u16])
     ensures { (i : ℕ) → get_or firsts.now i 0 < 2 ^ 16 }
 {}

@@ -102,7 +102,7 @@ fn lower_cell(cell: u64, o: usize) -> u64
 }
 
 // Which children of the parent's entries the entries of child q are, eight bits for each of the parent's.
-// Kept: a choice, of which the compiler makes a table in read-only memory; a constant array would be built anew for each child.
+// Kept: a choice, of which the compiler makes a table in read-only memory, and of which each case is proved by itself; a `static` array says no more.
 fn seen_by(q: usize) -> u64
     requires { q < 8 }
     ensures { result ≡ seen_by q }
@@ -404,7 +404,8 @@ fn list_has_room(nodes: &Nodes, start: usize, len: usize) -> bool
     has_room(len, start, n)
 }
 
-// Kept: the tables that a caller lends to this call and the next two are parameters, since a caller has them apart and lends them to one call.
+// Kept: no plainer. Of the tables that are lent to this call and the next two a caller would make a struct for the one call, and each promise would say besides
+// that it holds the same tables.
 
 // The list of a tree's vertices, written from a start place on, for one who knows that the tree is sound; of other tables, what the same walk comes
 // to.
