@@ -23,6 +23,7 @@ use Rattle.morton.proofs.Vertices.{is_inside_lem, inner_level, inner_low, inner_
 use Rattle.std.specs.Prelude.{Result}
 use Rattle.refusals.specs.declared.Refusal.{Refusal}
 use Rattle.tree.specs.declared.Lookup.{Lookup}
+use Rattle.tree.specs.declared.Node.{Node}
 use Rattle.tree.specs.Down.{Nodes, NodeOver, NodeSays}
 use Rattle.tree.specs.Climb.{distance_at, trusting_of}
 use Rattle.tree.proofs.Down.{place_le}
@@ -68,36 +69,38 @@ none_passed r (suc m) i hr hn e f h =
 no_eight : (r : ℕ) → r < 8 → bit_and 8 r ≡ 0
 no_eight r h = eqb-true (bit_and 8 r) 0 (below_at (λ x. eqb (bit_and 8 x) 0) 8 refl r h)
 
+-- what stands where no way was taken
+abbrev pub none : Node
+none = record { level = 0; place = 0 }
+
 -- of the sides from n on, for each that is lower on no axis on which q is odd: the node over the first of the eight cells that it is one of, by level and
 -- place; n is such a side, or 8
-pub record Told (ns : Nodes) (L q n : ℕ) (levels ends : List ℕ) : Type 0 where
+pub record Told (ns : Nodes) (L q n : ℕ) (ways : List Node) : Type 0 where
   pub most : n ≤ 8
   pub on_even : bit_and n (q % 8) ≡ 0
-  pub eight_levels : length levels ≡ 8
-  pub eight_ends : length ends ≡ 8
-  pub way : (j : ℕ) → n ≤ j → j < 8 → bit_and j (q % 8) ≡ 0 → NodeSays ns L (8 * (sub q j / 8)) (get_or levels j 0) (get_or ends j 0)
+  pub eight : length ways ≡ 8
+  pub way : (j : ℕ) → n ≤ j → j < 8 → bit_and j (q % 8) ≡ 0 → NodeSays ns L (8 * (sub q j / 8)) (get_or ways j none).level (get_or ways j none).place
 
 module _ (ns : Nodes) (L q : ℕ) where
   -- the side before n
-  module _ (n : ℕ) (levels ends : List ℕ) (t : Told ns L q n levels ends) where
+  module _ (n : ℕ) (ways : List Node) (t : Told ns L q n ways) where
     abbrev before : ℕ
     before = bit_and (n - 1) (7 - q % 8)
 
     pub before_in : before < 8
     before_in = kept_lt (n - 1) (q % 8) (omega (arith, t.most))
 
-    pub told_more : (side l p : ℕ) → side ≡ sub q before → NodeSays ns L (8 * (side / 8)) l p → Told ns L q before (set levels before l) (set ends before p)
-    told_more side l p is s =
+    pub told_more : (side : ℕ) (way : Node) → side ≡ sub q before → NodeSays ns L (8 * (side / 8)) way.level way.place → Told ns L q before (set ways before way)
+    told_more side way is s =
         record {
           most = omega (arith, before_in);
           on_even = kept_none (n - 1) (q % 8) (omega (arith, t.most)) (omega arith);
-          eight_levels = length-set levels before l ∙ t.eight_levels;
-          eight_ends = length-set ends before p ∙ t.eight_ends;
+          eight = length-set ways before way ∙ t.eight;
           way = λ j f g e. elim (ℕ_discrete before j) [
-            | yes z ↦ subst (λ (i : ℕ). NodeSays ns L (8 * (sub q i / 8)) (get_or (set levels before l) i 0) (get_or (set ends before p) i 0)) z
-                (rw (get_or-set_same levels before l 0 (omega (arith, before_in, t.eight_levels)), get_or-set_same ends before p 0 (omega (arith, before_in, t.eight_ends)), ← is) s)
+            | yes z ↦ subst (λ (i : ℕ). NodeSays ns L (8 * (sub q i / 8)) (get_or (set ways before way) i none).level (get_or (set ways before way) i none).place) z
+                (rw (get_or-set_same ways before way none (omega (arith, before_in, t.eight)), ← is) s)
             | no z ↦ let o : j ≡ before → ⊥ = λ y. z (sym y) in
-                rw (get_or-set_other levels before j l 0 o, get_or-set_other ends before j p 0 o)
+                rw (get_or-set_other ways before j way none o)
                 (t.way j (passed j f e z) g e)
           ];
         }
@@ -198,19 +201,22 @@ module _ (L q : ℕ) (h1 : 1 ≤ L) (h : L ≤ 20) (e : is_inside L q ≡ true) 
       subst (λ (m : ℕ). sub m (bit_and i (7 - q % 8)) / 8 ≡ sub m i / 8) digits (child_shares (L - 1) (q / 8) (q % 8) (omega arith) (omega arith) inside i g)
 
   -- so the way that is kept serves side i
-  module _ (ns : Nodes) (n : ℕ) (levels ends : List ℕ) (all : n ≤ 0) (w : Told ns L q n levels ends) (i : ℕ) (g : i < 8) (side : ℕ) (is : side ≡ sub q i) where
+  module _ (ns : Nodes) (n : ℕ) (ways : List Node) (all : n ≤ 0) (w : Told ns L q n ways) (i : ℕ) (g : i < 8) (side : ℕ) (is : side ≡ sub q i) where
     abbrev kept : ℕ
     kept = bit_and i (7 - q % 8)
 
-    way_over : NodeOver ns L (8 * (side / 8)) (get_or levels kept 0) (get_or ends kept 0)
+    abbrev way : Node
+    way = get_or ways kept none
+
+    way_over : NodeOver ns L (8 * (side / 8)) way.level way.place
     way_over =
-        subst (λ (m : ℕ). NodeOver ns L (8 * m) (get_or levels kept 0) (get_or ends kept 0)) (shares i g ∙ ap (λ (x : ℕ). x / 8) (sym is))
+        subst (λ (m : ℕ). NodeOver ns L (8 * m) way.level way.place) (shares i g ∙ ap (λ (x : ℕ). x / 8) (sym is))
         (says_over ns L _ _ _ (omega arith) (w.way kept (omega arith) (kept_lt i (q % 8) g) (kept_none i (q % 8) g (omega arith))))
 
-    pub way_ready : length ns.keys ≤ 2 ^ 62 → (1 ≤ L) × (L ≤ 20) × (get_or levels kept 0 ≤ L) × (get_or ends kept 0 ≤ 2 ^ 62) × Cell L side
+    pub way_ready : length ns.keys ≤ 2 ^ 62 → (1 ≤ L) × (L ≤ 20) × (way.level ≤ L) × (way.place ≤ 2 ^ 62) × Cell L side
     way_ready few =
         (h1, h, way_over.no_deeper, omega (arith, way_over.at, place_le ns L (8 * (side / 8))), subst (Cell L) (sym is) (side_in i g))
 
-    pub way_entry : (ds : List Float) (k : ℕ) (d : Float) (p m : ℕ) → EntryFor ds L side (get_or levels kept 0) (get_or ends kept 0) k d p m
+    pub way_entry : (ds : List Float) (k : ℕ) (d : Float) (p m : ℕ) → EntryFor ds L side way.level way.place k d p m
         → EntrySays (lookup_at ns ds q i) k d p m
     way_entry ds k d p m f = subst (λ (x : ℕ). EntrySays (trusting_of ns ds x) k d p m) is (f ns way_over)

@@ -11,7 +11,7 @@ ghost use Rattle.dual.specs.Dual.{DualSays, EntryFor, RefusedSays, AroundSays, T
 
 use morton::Key;
 use refusals::Refusal;
-use tree::{Nodes, Tree};
+use tree::{Node, Nodes, Tree};
 
 // A dual cell in corner order: entry w is the cell that has the vertex at its corner w; and how many keys were tried for it.
 // Kept: the arrays stand beside the refusal and not in the `Ok`, since `DualSays` says of a refused call that each is empty, and the edit
@@ -73,16 +73,13 @@ fn around(nodes: &Nodes, distances: &[f32], middle: u64, level: u32) -> Dual
     let from = Key { code: middle };
     let odd = (middle % 8) as usize;
     let even = 7 - odd;
-    let mut levels = [0u32; 8];
-    let mut ends = [0usize; 8];
+    let mut ways = [Node { level: 0, place: 0 }; 8];
     let mut above: usize = 8;
     // Kept: no `for`, since it goes over the numbers alone that have no bit of `odd`: to go over all and leave the others out took a dual cell 6 percent more.
     while above > 0 {
         let j = (above - 1) & even;
         let side = from.sub(Key { code: j as u64 });
-        let node = nodes.go_down(level, 8 * (side.code / 8));
-        levels[j] = node.level;
-        ends[j] = node.place;
+        ways[j] = nodes.go_down(level, 8 * (side.code / 8));
         above = j;
     }
     let mut found = [0u64; 8];
@@ -90,9 +87,9 @@ fn around(nodes: &Nodes, distances: &[f32], middle: u64, level: u32) -> Dual
     let mut places = [0usize; 8];
     let mut tried: u32 = 0;
     for i in 0..8 {
-        let kept = i & even;
+        let way = ways[i & even];
         let side = from.sub(Key { code: i as u64 });
-        let e = entry_for(distances, side.code, level, levels[kept], ends[kept]);
+        let e = entry_for(distances, side.code, level, way.level, way.place);
         found[i] = e.key;
         theirs[i] = e.distance;
         places[i] = e.place;

@@ -7,7 +7,7 @@ use Rattle.dual.proofs.Filling.{Filled}
 use Rattle.dual.proofs.around.Given as goal
 
 abbrev pub invariant-loop-above : goal.invariant-loop-above
-invariant-loop-above l = Told (the_nodes l.nodes) l.level l.middle l.above l.levels l.ends
+invariant-loop-above l = Told (the_nodes l.nodes) l.level l.middle l.above l.ways
 
 abbrev pub decreases-loop-above : goal.decreases-loop-above
 decreases-loop-above l = l.above
