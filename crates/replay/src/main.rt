@@ -105,7 +105,7 @@ impl Build {
             leaves: sample::length_at(l.b, 3, 1024),
             queue: sample::length_at(l.a, 2, 1024),
         };
-        let bound = (l.a % 0x1_0000_0000) as u32;
+        let bound = sample::low(l.a);
         self.goes_on(build::start(bound, lengths), l)
     }
 

@@ -89,7 +89,7 @@ impl Listed {
 
 // Z has the place above the number tried.
 fn is_found(key: u64, distance: f32, place: usize, tried: u32, l: Line) -> bool {
-    u64::from(tried) == l.z % 0x1_0000_0000
+    tried == sample::low(l.z)
         && place as u64 == l.z >> 32
         && sample::is_float(distance, l.y)
         && sample::first_is(l, key)
@@ -124,7 +124,7 @@ fn dual_cell(tree: &Tree, l: Line) -> bool {
 
 // C has the exponent above the level.
 fn slabs(tree: &Tree, l: Line) -> bool {
-    let exponent = ((l.c >> 32) % 0x1_0000_0000) as u32;
+    let exponent = sample::low(l.c >> 32);
     let answer = slabs::slabs(tree, l.b, l.low_c, exponent);
     sample::same(answer, l, |reach| {
         u64::from(reach.last) == l.y && sample::first_is(l, u64::from(reach.first))
@@ -152,7 +152,7 @@ fn lifetimes(tree: &Tree, l: Line) -> bool {
     let slab = (l.b >> 32) as usize;
     sample::same(answer, l, |n| sample::first_is(l, u64::from(n)))
         && u64::from(first.get(leaf).copied().unwrap_or(0)) == l.y >> 32
-        && u64::from(last.get(leaf).copied().unwrap_or(0)) == l.y % 0x1_0000_0000
+        && last.get(leaf).copied().unwrap_or(0) == sample::low(l.y)
         && u64::from(needed.get(slab).copied().unwrap_or(0)) == l.z
 }
 

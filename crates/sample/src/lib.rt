@@ -138,7 +138,8 @@ fn word(text: [u8; 108], at: usize, digits: usize) -> u64
     n
 }
 
-fn low(n: u64) -> u32
+// The low half of a word.
+pub fn low(n: u64) -> u32
     ensures { result ≡ n % 2 ^ 32 }
 {
     // Kept: an `as` may lose nothing, and std has no call for a low half.
