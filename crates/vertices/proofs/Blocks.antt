@@ -225,15 +225,6 @@ module _ (ks : Nodes) (l c : ℕ) (at : List ℕ) (mask low : ℕ) (h : Here ks 
   pub here_leaf : (o : ℕ) → o < 8 → marked mask o ≡ false → get_or at o 0 ≡ place_at ks l c o
   here_leaf o ho e = h.stands o ho ∙ ap (λ (r : Bool). if₀ r (first_at ks (place_at ks l c o)) (place_at ks l c o)) e
 
-  pub here_near : Each16 ks.firsts → Near at
-  unfolding first_at
-  here_near k =
-      record {
-        eight_places = h.eight_places;
-        each = λ o ho.
-            decided (marked mask o) (λ e. omega (arith, here_split o ho e, k (place_at ks l c o))) (λ e. omega (arith, here_leaf o ho e, place_most ks k l c o));
-      }
-
   pub here_bound : c < 2 ^ 60
   here_bound = omega (arith, cell_lt l limit c h.cell h.shallow)
 
@@ -255,6 +246,23 @@ module _ (ks : Nodes) (l c : ℕ) (at : List ℕ) (mask low : ℕ) (h : Here ks 
               ∙ ap (λ (n : ℕ). n + bit_xor q o) (here_split (bit_and o (7 - q)) (kept_lt o q ho) (mark_is ∙ s))
               ∙ sym p
           go (stay s e p) = lowered_is at mask q o (mark_is ∙ s) ∙ here_leaf (bit_and o (7 - q)) (kept_lt o q ho) (mark_is ∙ s) ∙ sym p
+
+    -- so they are near, whatever is split
+    pub lowered_near : Each16 ks.firsts → (r : ℕ) (e : List ℕ) → LoweredAt ks.firsts at mask r q e → Near e
+    unfolding lowered_at
+    lowered_near k r e la =
+        record {
+          eight_places = la.0;
+          each = λ o ho.
+              decided (marked r o) (λ m. omega (arith, is o ho m, k (lowered_place at mask q o)))
+              (λ m. omega (arith, is o ho m, place_is o ho, place_most ks k (suc l) (8 * c + q) o));
+        }
+      where
+        is : (o : ℕ) → o < 8 → {b : Bool} → marked r o ≡ b
+            → get_or e o 0 ≡ if₀ b (get_or ks.firsts (lowered_place at mask q o) 0) (lowered_place at mask q o)
+        is o ho m =
+            la.1 o ho
+            ∙ ap (λ (b : Bool). if₀ b (get_or ks.firsts (lowered_place at mask q o) 0) (lowered_place at mask q o)) m
 
     module _ (bits : ℕ) (bm : BelowMarks ks c at mask bits) where
       mark_step : (o : ℕ) → o < 8 → lowered_mark bits q o ≡ split_at ks (suc l) (entry ks (suc l) (8 * c + q) o)

@@ -5,7 +5,6 @@ use Rattle.std.proofs.lemmas.List.Edits.{sets}
 use Rattle.morton.specs.Field.{bit, coord, sub}
 use Rattle.morton.specs.Level.{limit, if₀, Cell}
 use Rattle.tree.specs.Down.{Nodes, first_at, steps}
-use Rattle.vertices.specs.declared.Block as lent
 use Rattle.vertices.specs.declared.Out as lent-out
 use Rattle.vertices.specs.Walk.{split_at, entry, place_at, low_corner, Spot, vertices_of, levels_of}
 use Rattle.vertices.specs.Cells.{wanted, places_of, Cells, cells_of}
@@ -29,10 +28,6 @@ pub record Here (ks : Nodes) (l c : ℕ) (at : List ℕ) (mask low : ℕ) : Type
   pub eight_places : length at ≡ 8
   pub stands : (o : ℕ) → o < 8 → get_or at o 0 ≡ if₀ (marked mask o) (first_at ks (place_at ks l c o)) (place_at ks l c o)
   pub side : Low l c low
-
--- The same of the block that the code lends.
-abbrev pub HereIn : Nodes → lent.Block → Type 0
-HereIn ks b = Here ks b.cube.level b.cube.cell b.at b.mask b.low
 
 -- The grandchildren of each marked entry, which is the cell that lies that way, are numbers of 64 bits.
 abbrev pub Small : ℕ → ℕ → Type 0

@@ -9,7 +9,7 @@ ghost use Rattle.std.proofs.lemmas.List.Edits.{sets};
 ghost use Rattle.vertices.specs.Listing.{lists_of, ListSays, TrustingSays};
 ghost use Rattle.vertices.specs.Cells.{eight, cells_of, CellsSays};
 ghost use Rattle.tree.specs.Down.{the_nodes};
-ghost use Rattle.vertices.specs.Block.{seen_by, kept_by, marked, HereIn, Small, ChildlessSays, ChildMarks, BelowMarks, SeenSays, LoweredMarks, Touched, the_cells, SameOut, PutSays, RoundSays, Laid, Near, Each16, lowered_place, LoweredAt, Stored, TakeSays, Skipped};
+ghost use Rattle.vertices.specs.Block.{seen_by, kept_by, marked, Here, Small, ChildlessSays, ChildMarks, BelowMarks, SeenSays, LoweredMarks, Touched, the_cells, SameOut, PutSays, RoundSays, Laid, Near, Each16, lowered_place, LoweredAt, Stored, TakeSays, Skipped};
 
 use morton::Key;
 use refusals::Refusal;
@@ -33,6 +33,7 @@ struct Block {
     at: [u32; 8],
     mask: u64,
     low: usize,
+    ghost near: { Near at },
 }
 
 // Which vertices are wanted: those from a number on, up to so many places.
@@ -190,7 +191,7 @@ impl Cube {
 impl Block {
     // Which children of each split entry are split themselves, eight bits for each entry: it is the cell that lies that way.
     fn split_below(&self, nodes: &Nodes) -> u64
-        requires { Small self.now.cube.cell self.now.mask × Near self.now.at }
+        requires { Small self.now.cube.cell self.now.mask }
         ensures { BelowMarks (the_nodes nodes.now) self.now.cube.cell self.now.at self.now.mask result }
     {
         let mut below = 0;
@@ -213,7 +214,7 @@ impl Block {
 
     // The place of entry o of child q.
     fn lower_place(&self, q: usize, o: usize) -> u32
-        requires { (q < 8) × (o < 8) × Near self.now.at }
+        requires { (q < 8) × (o < 8) }
         ensures { result ≡ lowered_place self.now.at self.now.mask q o }
     {
         let i = o & (7 - q);
@@ -225,8 +226,7 @@ impl Block {
 
     // Writes the places of child q's entries, for the vertex at a place.
     fn put_places(&self, q: usize, places: &mut [usize], n: usize)
-        requires q_bound { (q < 8) × (8 * n + 8 ≤ length places.old) }
-        requires near { Near self.now.at }
+        requires { (q < 8) × (8 * n + 8 ≤ length places.old) }
         ensures { places.new ≡ sets places.old (8 * n) (eight (lowered_place self.now.at self.now.mask q)) }
     {
         for o in 0..8 {
@@ -236,7 +236,7 @@ impl Block {
 
     // The same if the table has room for them.
     fn put_round(&self, q: usize, places: &mut [usize], n: usize)
-        requires { (q < 8) × Near self.now.at }
+        requires { q < 8 }
         ensures { RoundSays places.old n (eight (lowered_place self.now.at self.now.mask q)) places.new }
     {
         if n < places.len() / 8 {
@@ -246,7 +246,7 @@ impl Block {
 
     // The places of child q's entries, whose mask is known; of the split ones, those of their first children.
     fn lower_at(&self, nodes: &Nodes, q: usize, mask: u64) -> [u32; 8]
-        requires { (q < 8) × Near self.now.at × Each16 nodes.now.firsts.now }
+        requires { (q < 8) × Each16 nodes.now.firsts.now }
         ensures { LoweredAt nodes.now.firsts.now self.now.at self.now.mask mask q result }
     {
         let mut out = [0u32; 8];
@@ -283,7 +283,7 @@ impl Out<'_> {
     // Writes the low corner of child q of a block, with its level and the places round it, unless it is less than a number, each in a table that has room;
     // the place after it.
     fn take(&mut self, from: u64, block: &Block, q: usize, child: Cube, n: usize) -> usize
-        requires room { (q < 8) × (n + 1 < 2 ^ 64) × Near block.now.at }
+        requires room { (q < 8) × (n + 1 < 2 ^ 64) }
         requires child { (child.level ≤ limit) × Cell child.level child.cell }
         ensures same { SameOut self.old self.new }
         ensures took { TakeSays from (low_corner child.level child.cell) child.level n (eight (lowered_place block.now.at block.now.mask q))
@@ -301,7 +301,7 @@ impl Out<'_> {
 
 // Writes the wanted vertices of a divided cell from place n on, up to so many; the place after the last.
 fn gather(nodes: &Nodes, wanted: &Wanted, block: &Block, out: &mut Out, n: usize) -> usize
-    requires here { HereIn (the_nodes nodes.now) block.now }
+    requires here { Here (the_nodes nodes.now) block.now.cube.level block.now.cube.cell block.now.at block.now.mask block.now.low }
     requires cell_value { divided (the_nodes nodes.now) block.now.cube.level block.now.cube.cell ≡ true }
     requires n_le_room { (n ≤ wanted.now.room) × (block.now.cube.level < limit) × Each16 nodes.now.firsts.now }
     ensures same { SameOut out.old out.new }

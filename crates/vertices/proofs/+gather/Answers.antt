@@ -3,13 +3,13 @@
 use mathlib.Core.Path.{refl, ◌∙◌}
 use native.Mathlib.Omega.{arith}
 use Rattle.tree.proofs.Pass.{said, denied}
-use Rattle.vertices.proofs.Blocks.{here_small, here_near, here_bound, step_on, child_still, child_divided, meets_is, place_is}
+use Rattle.vertices.proofs.Blocks.{here_small, here_bound, step_on, child_still, child_divided, meets_is, place_is, lowered_near}
 use Rattle.vertices.proofs.Storing.{same_all, partly_none, partly_step, partly_all, grown_skipped, grown_none, grown_taken, grown_deep, grown_on, unskipped}
 use Rattle.vertices.proofs.+gather.Goals as goal
 use Rattle.vertices.proofs.+gather.Goals.{then-mask-eq0+then-touched, then-mask-eq0+else-touched, else-mask-eq0+then-from-lt-LIMIT, else-mask-eq0+else-from-lt-LIMIT}
 
 pub split_below-below-requires : goal.split_below-below-requires
-split_below-below-requires t c = let h = c.requires.here in (here_small _ _ _ _ _ _ h, here_near _ _ _ _ _ _ h c.requires.n_le_room.2)
+split_below-below-requires t c = here_small _ _ _ _ _ _ c.requires.here
 
 pub loop-q-init : goal.loop-q-init
 loop-q-init t c = (same_all _, c.requires.n_le_room.0, partly_none _ _ _ _ _ _ _)
@@ -27,14 +27,12 @@ loop-q-preserved-then-skipped t c =
     (grown_skipped _ _ _ _ _ l.q _ _ c.requires.n_le_room.1 (said _ _ c.if-skipped.true c.skipped.ensures))
 
 pub take-m-requires-clause-room : goal.take-m-requires-clause-room
-take-m-requires-clause-room t c = (
-  omega arith,
-  omega (arith, unskipped _ _ _ _ _ (denied c.skipped.result _ c.if-skipped.false c.skipped.ensures)),
-  here_near _ _ _ _ _ _ c.requires.here c.requires.n_le_room.2,
-)
+take-m-requires-clause-room t c =
+    (omega arith, omega (arith, unskipped _ _ _ _ _ (denied c.skipped.result _ c.if-skipped.false c.skipped.ensures)))
 
-pub lower_at-requires : goal.lower_at-requires
-lower_at-requires t c = (omega arith, here_near _ _ _ _ _ _ c.requires.here c.requires.n_le_room.2, c.requires.n_le_room.2)
+pub invariant_of-lowered : goal.invariant_of-lowered
+invariant_of-lowered t c =
+    record { near = lowered_near _ _ _ _ _ _ c.requires.here c.loop-q.q (omega arith) c.requires.n_le_room.2 _ _ c.lower_at.ensures }
 
 pub gather-m-requires : goal.gather-m-requires
 gather-m-requires t c =
