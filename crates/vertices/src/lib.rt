@@ -23,6 +23,8 @@ use tree::{Nodes, Tree};
 struct Cube {
     level: u8,
     cell: u64,
+    ghost shallow: { level ≤ limit },
+    ghost key: { Cell level cell },
 }
 
 // The block of a cell: where its eight entries stand, of a split one where its first child does; a mask of those that are split, bit o being set where
@@ -165,7 +167,6 @@ fn kept_by(q: usize) -> u64
 impl Cube {
     // The low corner.
     fn low_corner(self) -> u64
-        requires { (self.level ≤ limit) × Cell self.level self.cell }
         ensures { result ≡ low_corner self.level self.cell }
     {
         self.cell << (63 - self.level * 3)
@@ -173,7 +174,6 @@ impl Cube {
 
     // Whether all vertices of the cell are less than a number.
     fn passed(self, from: u64) -> bool
-        requires { (self.level ≤ limit) × Cell self.level self.cell }
         ensures { Decides result (low_corner self.level (self.cell + 1) ≤ from) }
     {
         from >> (63 - self.level * 3) > self.cell
@@ -181,7 +181,6 @@ impl Cube {
 
     // Whether the cell has nothing that is wanted and has room.
     fn skipped(self, wanted: &Wanted, n: usize) -> bool
-        requires { (self.level ≤ limit) × Cell self.level self.cell }
         ensures { Decides result (Skipped self.level self.cell wanted.now.from n wanted.now.room) }
     {
         n >= wanted.room || self.passed(wanted.from)
@@ -283,8 +282,7 @@ impl Out<'_> {
     // Writes the low corner of child q of a block, with its level and the places round it, unless it is less than a number, each in a table that has room;
     // the place after it.
     fn take(&mut self, from: u64, block: &Block, q: usize, child: Cube, n: usize) -> usize
-        requires room { (q < 8) × (n + 1 < 2 ^ 64) }
-        requires child { (child.level ≤ limit) × Cell child.level child.cell }
+        requires { (q < 8) × (n + 1 < 2 ^ 64) }
         ensures same { SameOut self.old self.new }
         ensures took { TakeSays from (low_corner child.level child.cell) child.level n (eight (lowered_place block.now.at block.now.mask q))
             (the_cells self.old) (the_cells self.new) result }

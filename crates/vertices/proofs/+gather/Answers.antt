@@ -26,8 +26,8 @@ loop-q-preserved-then-skipped t c =
     partly_step _ _ _ _ _ l.q _ _ _ _ _ _ l.invariant (same_all _)
     (grown_skipped _ _ _ _ _ l.q _ _ c.requires.n_le_room.1 (said _ _ c.if-skipped.true c.skipped.ensures))
 
-pub take-m-requires-clause-room : goal.take-m-requires-clause-room
-take-m-requires-clause-room t c =
+pub take-m-requires : goal.take-m-requires
+take-m-requires t c =
     (omega arith, omega (arith, unskipped _ _ _ _ _ (denied c.skipped.result _ c.if-skipped.false c.skipped.ensures)))
 
 pub invariant_of-lowered : goal.invariant_of-lowered

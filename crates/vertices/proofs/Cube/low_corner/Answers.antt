@@ -3,4 +3,4 @@ use Rattle.vertices.proofs.Blocks.{shift_cell}
 use Rattle.vertices.proofs.Cube.low_corner.Goals as goal
 
 pub returns : goal.returns
-returns c = shift_cell _ _ c.requires.0 c.requires.1
+returns c = shift_cell _ _ c.args.self.shallow c.args.self.key

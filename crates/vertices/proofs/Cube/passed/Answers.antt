@@ -4,4 +4,4 @@ use Rattle.vertices.proofs.Places.{passed_lt}
 use Rattle.vertices.proofs.Cube.passed.Goals as goal
 
 pub returns : goal.returns
-returns c = passed_lt _ _ _ _ c.requires.0 refl
+returns c = passed_lt _ _ _ _ c.args.self.shallow refl
