@@ -304,7 +304,6 @@ module _ (ks : Nodes) (l c : ℕ) (at : List ℕ) (mask low : ℕ) (h : Here ks 
               small = lm.small;
               marks = λ o ho. lm.marks o ho ∙ mark_step o ho;
               stands = λ o ho. la.1 o ho ∙ ap (λ (n : ℕ). if₀ (marked r o) (get_or ks.firsts n 0) n) (place_is o ho);
-              eight_places = la.0;
               side = low_step l c low q hq h.side;
             }
 

@@ -71,7 +71,6 @@ module _ (ks : Nodes) where
             cell = record { low = omega arith; high = omega arith };
             small = omega arith;
             marks = marks r;
-            eight_places = refl;
             stands = stands;
             side = record { small = omega arith; marks = axes (λ a. marked 7 a ≡ eqb (coord 0 1 a) 0) refl refl refl };
           },

@@ -25,7 +25,6 @@ pub record Here (ks : Nodes) (l c : ℕ) (at : List ℕ) (mask low : ℕ) : Type
   pub cell : Cell l c
   pub small : mask < 2 ^ 8
   pub marks : (o : ℕ) → o < 8 → marked mask o ≡ split_at ks l (entry ks l c o)
-  pub eight_places : length at ≡ 8
   pub stands : (o : ℕ) → o < 8 → get_or at o 0 ≡ if₀ (marked mask o) (first_at ks (place_at ks l c o)) (place_at ks l c o)
   pub side : Low l c low
 
