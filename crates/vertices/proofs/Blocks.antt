@@ -13,10 +13,9 @@ use lib.ListN.{length, get_or, set}
 use lib.Seq.{sets, get_or-set_same, get_or-set_other}
 use borrow.Author.Tests.{ltb-true, lt-ltb, leb-true, le-leb, eqb-true, eqb-false, eq-eqb, ne_eqb}
 use Rattle.morton.specs.Level.{limit, if₀, Cell}
-use Rattle.morton.proofs.Cells.{child_cell}
 use Rattle.morton.proofs.Dilated.{axes}
 use Rattle.morton.proofs.Fields.{bit_le, coord_child}
-use Rattle.morton.proofs.Levels.{and_true, cell_lt, eight_pos, eight_mono}
+use Rattle.morton.proofs.Levels.{and_true, eight_pos, eight_mono}
 use Rattle.morton.proofs.Vertices.{up_pow, down_cell}
 use Rattle.tree.specs.Tree.{Decides}
 use Rattle.tree.proofs.Lists.{decided, unless}
@@ -212,11 +211,12 @@ lowered_is at mask q o e = ap (λ (r : Bool). if₀ r (get_or at (bit_and o (7 -
 
 module _ (ks : Nodes) (l c : ℕ) (at : List ℕ) (mask low : ℕ) (h : Here ks l c at mask low) where
   -- a split entry is the cell that lies that way
-  pub here_side : (o : ℕ) → o < 8 → marked mask o ≡ true → sub c o ≡ entry ks l c o
-  here_side o ho e = side_entry ks l c o h.shallow h.cell ho (sym (h.marks o ho) ∙ e)
+  module _ (hl : l ≤ limit) (hc : Cell l c) where
+    here_side : (o : ℕ) → o < 8 → marked mask o ≡ true → sub c o ≡ entry ks l c o
+    here_side o ho e = side_entry ks l c o hl hc ho (sym (h.marks o ho) ∙ e)
 
-  pub here_small : Small c mask
-  here_small o ho e = omega (arith, here_side o ho e, entry_lt ks l c o, eight_mono {i = l} {j = limit} h.shallow)
+    pub here_small : Small c mask
+    here_small o ho e = omega (arith, here_side o ho e, entry_lt ks l c o, eight_mono {i = l} {j = limit} hl)
 
   -- where each entry stands, by whether it is split
   pub here_split : (o : ℕ) → o < 8 → marked mask o ≡ true → get_or at o 0 ≡ first_at ks (place_at ks l c o)
@@ -224,9 +224,6 @@ module _ (ks : Nodes) (l c : ℕ) (at : List ℕ) (mask low : ℕ) (h : Here ks 
 
   pub here_leaf : (o : ℕ) → o < 8 → marked mask o ≡ false → get_or at o 0 ≡ place_at ks l c o
   here_leaf o ho e = h.stands o ho ∙ ap (λ (r : Bool). if₀ r (first_at ks (place_at ks l c o)) (place_at ks l c o)) e
-
-  pub here_bound : c < 2 ^ 60
-  here_bound = omega (arith, cell_lt l limit c h.cell h.shallow)
 
   module _ (q : ℕ) (hq : q < 8) where
     module _ (o : ℕ) (ho : o < 8) where
@@ -264,7 +261,7 @@ module _ (ks : Nodes) (l c : ℕ) (at : List ℕ) (mask low : ℕ) (h : Here ks 
             la.1 o ho
             ∙ ap (λ (b : Bool). if₀ b (get_or ks.firsts (lowered_place at mask q o) 0) (lowered_place at mask q o)) m
 
-    module _ (bits : ℕ) (bm : BelowMarks ks c at mask bits) where
+    module _ (hl : l ≤ limit) (hc : Cell l c) (bits : ℕ) (bm : BelowMarks ks c at mask bits) where
       mark_step : (o : ℕ) → o < 8 → lowered_mark bits q o ≡ split_at ks (suc l) (entry ks (suc l) (8 * c + q) o)
       unfolding from from_place lowered_mark
       mark_step o ho = bm (bit_and o (7 - q)) (kept_lt o q ho) (bit_xor q o) (flip_lt q o hq ho) ∙ go (below ks l c q o hq ho)
@@ -276,7 +273,7 @@ module _ (ks : Nodes) (l c : ℕ) (at : List ℕ) (mask low : ℕ) (h : Here ks 
               let m : marked mask (bit_and o (7 - q)) ≡ true = mark_is o ho ∙ s in
               let i = bit_and o (7 - q) in
               ap₂ ◌&&◌ m
-              (ap₂ (λ (m n : ℕ). steps ks (m + bit_xor q o) (8 * n + bit_xor q o)) (here_split i (kept_lt o q ho) m) (here_side i (kept_lt o q ho) m))
+              (ap₂ (λ (m n : ℕ). steps ks (m + bit_xor q o) (8 * n + bit_xor q o)) (here_split i (kept_lt o q ho) m) (here_side hl hc i (kept_lt o q ho) m))
               ∙ sym k
           go (stay s e p) =
               ap (λ (r : Bool). r && steps ks (get_or at (bit_and o (7 - q)) 0 + bit_xor q o) (8 * sub c (bit_and o (7 - q)) + bit_xor q o)) (mark_is o ho ∙ s)
@@ -295,12 +292,10 @@ module _ (ks : Nodes) (l c : ℕ) (at : List ℕ) (mask low : ℕ) (h : Here ks 
             let s = some_marked 8 r lm.small n in
             some_if (λ o. split_at ks (suc l) (entry ks (suc l) (8 * c + q) o)) 8 s.0 s.1 (sym (mark_step s.0 s.1) ∙ sym (lm.marks s.0 s.1) ∙ s.2)
 
-        pub here_step : l < limit → (e : List ℕ) → LoweredAt ks.firsts at mask r q e → Here ks (suc l) (8 * c + q) e r (bit_and low (7 - q))
+        pub here_step : (e : List ℕ) → LoweredAt ks.firsts at mask r q e → Here ks (suc l) (8 * c + q) e r (bit_and low (7 - q))
         unfolding lowered_at first_at
-        here_step hl e la =
+        here_step e la =
             record {
-              shallow = omega arith;
-              cell = child_cell l c q h.cell (omega arith);
               small = lm.small;
               marks = λ o ho. lm.marks o ho ∙ mark_step o ho;
               stands = λ o ho. la.1 o ho ∙ ap (λ (n : ℕ). if₀ (marked r o) (get_or ks.firsts n 0) n) (place_is o ho);
@@ -335,15 +330,15 @@ module _ (ks : Nodes) (l c : ℕ) (at : List ℕ) (mask low : ℕ) (h : Here ks 
     meets_is false d = unless (meets ks (suc l) (8 * c + q)) (λ e. d (meets_touched e))
 
 -- a child where the walk goes on
-pub step_on : (ks : Nodes) (l c : ℕ) (at : List ℕ) (mask low : ℕ) (h : Here ks l c at mask low) → l < limit → (q : ℕ) (hq : q < 8) (below : ℕ)
+pub step_on : (ks : Nodes) (l c : ℕ) (at : List ℕ) (mask low : ℕ) (h : Here ks l c at mask low) (hl : l ≤ limit) (hc : Cell l c) (q : ℕ) (hq : q < 8) (below : ℕ)
     → BelowMarks ks c at mask below → (r : ℕ) → LoweredMarks below q r → (r ≡ 0 → ⊥) → (e : List ℕ) → LoweredAt ks.firsts at mask r q e
     → Here ks (l + 1) (8 * c + q) e r (bit_and low (7 - q)) × (divided ks (l + 1) (8 * c + q) ≡ true)
-step_on ks l c at mask low h hl q hq below bm r lm nz e la =
+step_on ks l c at mask low h hl hc q hq below bm r lm nz e la =
     subst (λ (n : ℕ). Here ks n (8 * c + q) e r (bit_and low (7 - q)) × (divided ks n (8 * c + q) ≡ true)) (sym (add-one l))
-    (there, child_divided ks l c at mask low h q hq below bm r lm nz)
+    (there, child_divided ks l c at mask low h q hq hl hc below bm r lm nz)
   where
     there : Here ks (suc l) (8 * c + q) e r (bit_and low (7 - q))
-    there = here_step ks l c at mask low h q hq below bm r lm hl e la
+    there = here_step ks l c at mask low h q hq hl hc below bm r lm e la
 
 -- ---- tables
 

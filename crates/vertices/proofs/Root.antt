@@ -67,8 +67,6 @@ module _ (ks : Nodes) where
     root_here s =
         let r : steps ks 0 1 ≡ true = steps_root true s in (
           record {
-            shallow = omega arith;
-            cell = record { low = omega arith; high = omega arith };
             small = omega arith;
             marks = marks r;
             stands = stands;

@@ -3,7 +3,7 @@ use Rattle.std.specs.Prelude.{ℕ, ◌+◌, ◌*◌, ◌-◌, ◌^◌, ◌≤◌
 use Rattle.std.specs.Int.Bits.{bit_and, bit_xor}
 use Rattle.std.proofs.lemmas.List.Edits.{sets}
 use Rattle.morton.specs.Field.{bit, coord, sub}
-use Rattle.morton.specs.Level.{limit, if₀, Cell}
+use Rattle.morton.specs.Level.{if₀}
 use Rattle.tree.specs.Down.{Nodes, first_at, steps}
 use Rattle.vertices.specs.declared.Out as lent-out
 use Rattle.vertices.specs.Walk.{split_at, entry, place_at, low_corner, Spot, vertices_of, levels_of}
@@ -18,11 +18,8 @@ pub record Low (l c low : ℕ) : Type 0 where
   pub small : low < 2 ^ 3
   pub marks : (a : ℕ) → a < 3 → marked low a ≡ eqb (coord l c a) 0
 
--- The block of the cell c of level l, which is no deeper than the limit: where each entry stands, or of a split one its first child; which are split, and
--- on which axes none lies lower.
+-- The block of the cell c of level l: where each entry stands, or of a split one its first child; which are split, and on which axes none lies lower.
 pub record Here (ks : Nodes) (l c : ℕ) (at : List ℕ) (mask low : ℕ) : Type 0 where
-  pub shallow : l ≤ limit
-  pub cell : Cell l c
   pub small : mask < 2 ^ 8
   pub marks : (o : ℕ) → o < 8 → marked mask o ≡ split_at ks l (entry ks l c o)
   pub stands : (o : ℕ) → o < 8 → get_or at o 0 ≡ if₀ (marked mask o) (first_at ks (place_at ks l c o)) (place_at ks l c o)
