@@ -1,7 +1,7 @@
 -- Least and greatest so far, and what a cell adds to the spans of its leaves. Assumes nothing.
-use Rattle.std.proofs.Common.{◌≡◌, ℕ, ◌+◌, ◌*◌, ◌<◌, ◌≤◌, min, max, ◌⊎◌, List, length, get_or, set, sym, refl, ap, ◌∙◌, subst, inl, inr, ⊎_elim, arith, length-set, get_or-set_other, get_or-set_same}
+use Rattle.std.proofs.Common.{◌≡◌, ℕ, ◌+◌, ◌*◌, ◌<◌, ◌≤◌, min, max, ◌⊎◌, List, length, get_or, set, Option, Some, None, sym, refl, ap, ◌∙◌, subst, inl, inr, ⊎_elim, arith, length-set, get_or-set_other, get_or-set_same}
 use Rattle.tree.proofs.Lists.{order}
-use Rattle.lifetimes.specs.Trusted.{leaves_of, LeafAt}
+use Rattle.lifetimes.specs.Trusted.{LeafAt}
 use Rattle.lifetimes.specs.Steps.{upper, Finds, Edge, NoMore, NoLess, Meets, MeetingSays, Among, Pulled, PullSays, Widened}
 use Rattle.spans.proofs.HowMany.{same}
 use Rattle.lifetimes.proofs.Numbers.{leaf_one}
@@ -50,14 +50,19 @@ module _ {so : ℕ → ℕ → Type 0} {start : ℕ} where
 
 -- ---- the leaves of a cell
 
+-- what is found at a place is the leaf there
+pub found_is : {fs : List ℕ} {nodes p i : ℕ} (r : Option ℕ) → Finds fs nodes p r → LeafAt fs nodes p i → r ≡ Some i
+found_is None none l = absurd (none _ l)
+found_is (Some _) here l = ap Some (leaf_one here l)
+
 module _ (fs : List ℕ) (nodes : ℕ) (first places : List ℕ) (at : ℕ) where
-  module _ (n low high r : ℕ) (numbers : List ℕ) (h : n < 8) (M : MeetingSays fs nodes first places at n numbers low high)
-      (found : Finds fs nodes (get_or places (8 * at + n) 0) r) where
-    each_more : (o : ℕ) → o < n + 1 → Finds fs nodes (get_or places (8 * at + o) 0) (get_or (set numbers n r) o 0)
-    each_more o l = ⊎_elim
-        (λ c. subst (λ (o : ℕ). Finds fs nodes (get_or places (8 * at + o) 0) (get_or (set numbers n r) o 0)) (sym c)
-        (subst (Finds fs nodes (get_or places (8 * at + n) 0)) (sym (get_or-set_same numbers n r 0 (omega (arith, M.eight)))) found))
-        (λ d. subst (Finds fs nodes (get_or places (8 * at + o) 0)) (sym (get_or-set_other numbers n o r 0 d)) (M.each o (omega arith)))
+  module _ (n low high : ℕ) (numbers : List (Option ℕ)) (h : n < 8) (M : MeetingSays fs nodes first places at n numbers low high) where
+    each_more : (r : Option ℕ) → Finds fs nodes (get_or places (8 * at + n) 0) r
+        → (o : ℕ) → o < n + 1 → Finds fs nodes (get_or places (8 * at + o) 0) (get_or (set numbers n r) o None)
+    each_more r found o l = ⊎_elim
+        (λ c. subst (λ (o : ℕ). Finds fs nodes (get_or places (8 * at + o) 0) (get_or (set numbers n r) o None)) (sym c)
+        (subst (Finds fs nodes (get_or places (8 * at + n) 0)) (sym (get_or-set_same numbers n r None (omega (arith, M.eight)))) found))
+        (λ d. subst (Finds fs nodes (get_or places (8 * at + o) 0)) (sym (get_or-set_other numbers n o r None d)) (M.each o (omega arith)))
         (same o n)
 
     -- an earlier entry counts still
@@ -73,13 +78,14 @@ module _ (fs : List ℕ) (nodes : ℕ) (first places : List ℕ) (at : ℕ) wher
         (same m.o n)
 
     -- it is no leaf
-    pub meeting_other : leaves_of nodes ≤ r → MeetingSays fs nodes first places at (n + 1) (set numbers n r) low high
-    meeting_other g =
+    pub meeting_other : Finds fs nodes (get_or places (8 * at + n) 0) None
+        → MeetingSays fs nodes first places at (n + 1) (set numbers n None) low high
+    meeting_other none =
         let only : (y : ℕ) → Meets fs nodes first places at (n + 1) y → Meets fs nodes first places at n y =
-        λ y m. ⊎_elim (λ b. b) (λ l. absurd (⊎_elim (λ f. omega (arith, f.few)) (λ f. f.1 m.leaf l) found)) (before_or_new y m) in
+        λ y m. ⊎_elim (λ b. b) (λ l. absurd (none m.leaf l)) (before_or_new y m) in
         record {
-          eight = length-set numbers n r ∙ M.eight;
-          each = each_more;
+          eight = length-set numbers n None ∙ M.eight;
+          each = each_more None none;
           lowest = edge_map low low refl still only M.lowest;
           highest = edge_map high high refl still only M.highest;
           low_small = M.low_small;
@@ -87,10 +93,7 @@ module _ (fs : List ℕ) (nodes : ℕ) (first places : List ℕ) (at : ℕ) wher
         }
 
     -- it is one
-    module _ (few : r < leaves_of nodes) (slab : ℕ) (slab_is : slab ≡ upper (get_or first r 0)) where
-      leaf_here : LeafAt fs nodes (get_or places (8 * at + n) 0) r
-      leaf_here = ⊎_elim (λ l. l) (λ f. absurd (omega (arith, f.0))) found
-
+    module _ (r : ℕ) (leaf_here : LeafAt fs nodes (get_or places (8 * at + n) 0) r) (slab : ℕ) (slab_is : slab ≡ upper (get_or first r 0)) where
       to : (y : ℕ) → Meets fs nodes first places at n y ⊎ (slab ≡ y) → Meets fs nodes first places at (n + 1) y
       to y c = ⊎_elim (still y) (λ e. record { o = n; o_inside = omega arith; leaf = r; here = leaf_here; slab_is = sym slab_is ∙ e }) c
 
@@ -102,10 +105,10 @@ module _ (fs : List ℕ) (nodes : ℕ) (first places : List ℕ) (at : ℕ) wher
       new {so} w = record { all = λ y e. subst (so slab) e (w.itself slab); one = inr refl }
 
       pub meeting_leaf : (low' high' : ℕ) → low' ≡ min low slab → high' ≡ max high slab → slab ≤ 65535
-          → MeetingSays fs nodes first places at (n + 1) (set numbers n r) low' high'
+          → MeetingSays fs nodes first places at (n + 1) (set numbers n (Some r)) low' high'
       meeting_leaf low' high' e f small = record {
-        eight = length-set numbers n r ∙ M.eight;
-        each = each_more;
+        eight = length-set numbers n (Some r) ∙ M.eight;
+        each = each_more (Some r) leaf_here;
         lowest = edge_pick downward low slab low' e to from M.lowest (new downward);
         highest = edge_pick upward high slab high' f to from M.highest (new upward);
         low_small = omega (arith, M.low_small);
@@ -114,9 +117,18 @@ module _ (fs : List ℕ) (nodes : ℕ) (first places : List ℕ) (at : ℕ) wher
 
 -- ---- pulling
 
-module _ (numbers : List ℕ) (low high : ℕ) (first₀ last₀ : List ℕ) where
+-- there is a number, and it is i
+abbrev Is : ℕ → Option ℕ → Type 0
+Is i None = ⊥
+Is i (Some j) = j ≡ i
+
+same_some : (x : Option ℕ) (i : ℕ) → (x ≡ Some i) ⊎ (x ≡ Some i → ⊥)
+same_some None i = inr (λ e. subst (Is i) (sym e) refl)
+same_some (Some j) i = ⊎_elim (λ e. inl (ap Some e)) (λ d. inr (λ e. d (subst (Is i) (sym e) refl))) (same j i)
+
+module _ (numbers : List (Option ℕ)) (low high : ℕ) (first₀ last₀ : List ℕ) where
   module _ (n : ℕ) (first last first' last' : List ℕ) (W : Widened numbers n low high first₀ last₀ first last)
-      (P : PullSays low high (get_or numbers n 0) first last first' last') where
+      (P : PullSays low high (get_or numbers n None) first last first' last') where
     again : (i : ℕ) → Pulled low high (get_or first₀ i 0) (get_or last₀ i 0) (get_or first i 0) (get_or last i 0)
         → Pulled low high (get_or first i 0) (get_or last i 0) (get_or first' i 0) (get_or last' i 0)
         → Pulled low high (get_or first₀ i 0) (get_or last₀ i 0) (get_or first' i 0) (get_or last' i 0)
@@ -132,31 +144,28 @@ module _ (numbers : List ℕ) (low high : ℕ) (first₀ last₀ : List ℕ) whe
         (Among numbers (n + 1) i × Pulled low high (get_or first₀ i 0) (get_or last₀ i 0) (get_or first' i 0) (get_or last' i 0))
         ⊎ ((Among numbers (n + 1) i → ⊥) × (get_or first' i 0 ≡ get_or first₀ i 0) × (get_or last' i 0 ≡ get_or last₀ i 0))
 
-    before : (i : ℕ) → (get_or numbers n 0 ≡ i → ⊥) → Among numbers (n + 1) i → Among numbers n i
+    before : (i : ℕ) → (get_or numbers n None ≡ Some i → ⊥) → Among numbers (n + 1) i → Among numbers n i
     before i d a = record {
       o = a.o;
-      o_inside = ⊎_elim (λ c. absurd (d (ap (λ (o : ℕ). get_or numbers o 0) (sym c) ∙ a.here))) (λ e. omega (arith, a.o_inside)) (same a.o n);
+      o_inside = ⊎_elim (λ c. absurd (d (ap (λ (o : ℕ). get_or numbers o None) (sym c) ∙ a.here))) (λ e. omega (arith, a.o_inside)) (same a.o n);
       here = a.here;
     }
 
     after : (i : ℕ) → Among numbers n i → Among numbers (n + 1) i
     after i a = record { o = a.o; o_inside = omega (arith, a.o_inside); here = a.here }
 
-    hit : (i : ℕ) → i < length first₀ → get_or numbers n 0 ≡ i → Both i
+    hit : (i : ℕ) → i < length first₀ → get_or numbers n None ≡ Some i → Both i
     hit i h c =
-        let p =
-        subst (λ (i : ℕ). i < length first → Pulled low high (get_or first i 0) (get_or last i 0) (get_or first' i 0) (get_or last' i 0)) c P.2
-        (omega (arith, W.first_long)) in
-        inl (
+        let p = P.2 i c in inl (
           record { o = n; o_inside = omega arith; here = c },
           ⊎_elim (λ a. again i a.1 p)
               (λ b. subst (λ (x : ℕ). Pulled low high x (get_or last₀ i 0) (get_or first' i 0) (get_or last' i 0)) b.1
               (subst (λ (x : ℕ). Pulled low high (get_or first i 0) x (get_or first' i 0) (get_or last' i 0)) b.2 p)) (W.each i h),
         )
 
-    miss : (i : ℕ) → i < length first₀ → (get_or numbers n 0 ≡ i → ⊥) → Both i
+    miss : (i : ℕ) → i < length first₀ → (get_or numbers n None ≡ Some i → ⊥) → Both i
     miss i h d =
-        let kept = P.3 i (λ e. d (sym e)) in
+        let kept = P.3 i d in
         ⊎_elim
         (λ a. inl (
           after i a.0,
@@ -170,5 +179,5 @@ module _ (numbers : List ℕ) (low high : ℕ) (first₀ last₀ : List ℕ) whe
     widened_more = record {
       first_long = P.0 ∙ W.first_long;
       last_long = P.1 ∙ W.last_long;
-      each = λ i h. ⊎_elim (hit i h) (miss i h) (same (get_or numbers n 0) i);
+      each = λ i h. ⊎_elim (hit i h) (miss i h) (same_some (get_or numbers n None) i);
     }

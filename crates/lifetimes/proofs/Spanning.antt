@@ -1,5 +1,5 @@
 -- The spans grow by the cells that are gone over. Assumes nothing.
-use Rattle.std.proofs.Common.{◌≡◌, ℕ, ◌+◌, ◌-◌, ◌*◌, ◌^◌, ◌<◌, ◌≤◌, ◌⊎◌, List, [], ◌++◌, length, get_or, take, drop, sym, refl, ap, ◌∙◌, subst, inl, inr, ⊎_elim, append_assoc, append-nil, arith, length-append, length-drop, length-take, get_or-drop, get_or-take, get_or-append-add, take-add, pow_pos}
+use Rattle.std.proofs.Common.{◌≡◌, ℕ, ◌+◌, ◌-◌, ◌*◌, ◌^◌, ◌<◌, ◌≤◌, ◌⊎◌, List, [], ◌++◌, length, get_or, Option, None, take, drop, sym, refl, ap, ◌∙◌, subst, inl, inr, ⊎_elim, append_assoc, append-nil, arith, length-append, length-drop, length-take, get_or-drop, get_or-take, get_or-append-add, take-add, pow_pos}
 use lib.ListN.{get_or-append}
 use Rattle.tree.specs.Down.{Nodes}
 use Rattle.tree.proofs.Lists.{order}
@@ -9,9 +9,9 @@ use Rattle.vertices.specs.Cells.{places_of}
 use Rattle.slabs.proofs.Order.{slab_lt}
 use Rattle.lifetimes.specs.Needed.{LeastOf, GreatestOf}
 use Rattle.lifetimes.specs.Trusted.{nodes_in, leaves_of, LeafAt, Beside, Sharing, Shared, Alone}
-use Rattle.lifetimes.specs.Steps.{upper, lower, slot_of, Ready, Edge, Meets, MeetingSays, Among, Pulled, Widened, Spanned, Widens, own_slab, Prepared, AllUnpacked, SpansLeft}
-use Rattle.lifetimes.proofs.Numbers.{leaf_one, slot_inside, slab_small}
-use Rattle.lifetimes.proofs.Edges.{Picking, downward, upward, edge_map, edge_pick}
+use Rattle.lifetimes.specs.Steps.{upper, lower, slot_of, Ready, Finds, Edge, Meets, MeetingSays, Among, Pulled, Widened, Spanned, Widens, own_slab, Prepared, AllUnpacked, SpansLeft}
+use Rattle.lifetimes.proofs.Numbers.{slot_inside, slab_small}
+use Rattle.lifetimes.proofs.Edges.{found_is, Picking, downward, upward, edge_map, edge_pick}
 
 -- ---- one cell more
 
@@ -147,7 +147,7 @@ module _ (fs : List ℕ) (nodes : ℕ) (slab : ℕ → ℕ) (seen places : List 
     kept_edge i none x z e =
         edge_map x z e (λ y b. old i y b) (λ y b. ⊎_elim (λ s. s) (λ h. absurd (none h.o h.o_inside h.here)) (either i y b))
 
-module _ (fs : List ℕ) (nodes : ℕ) (places : List ℕ) (at low high : ℕ) (numbers first last first' last' : List ℕ)
+module _ (fs : List ℕ) (nodes : ℕ) (places : List ℕ) (at low high : ℕ) (numbers : List (Option ℕ)) (first last first' last' : List ℕ)
     (room : 8 * at + 8 ≤ length places) (R : Ready fs nodes first last)
     (M : MeetingSays fs nodes first places at 8 numbers low high) (W : Widened numbers 8 low high first last first' last') where
   -- what stands in both tables at a leaf's number
@@ -163,16 +163,11 @@ module _ (fs : List ℕ) (nodes : ℕ) (places : List ℕ) (at low high : ℕ) (
   uppers i h = ⊎_elim (λ a. (a.1.first_upper, a.1.last_upper)) (λ b. (ap upper b.1, ap upper b.2)) (changed i h)
 
   -- an entry that has the number of a leaf is that leaf, and the other way round
-  leaf_of : (i : ℕ) → i < leaves_of nodes → (a : Among numbers 8 i) → LeafAt fs nodes (get_or places (8 * at + a.o) 0) i
-  leaf_of i h a = subst (LeafAt fs nodes (get_or places (8 * at + a.o) 0)) a.here
-      (⊎_elim (λ l. l) (λ n. absurd (omega (arith, n.0, a.here))) (M.each a.o a.o_inside))
+  leaf_of : (i : ℕ) → (a : Among numbers 8 i) → LeafAt fs nodes (get_or places (8 * at + a.o) 0) i
+  leaf_of i a = subst (Finds fs nodes (get_or places (8 * at + a.o) 0)) a.here (M.each a.o a.o_inside)
 
   none_of : (i : ℕ) → (Among numbers 8 i → ⊥) → (o : ℕ) → o < 8 → LeafAt fs nodes (get_or places (8 * at + o) 0) i → ⊥
-  none_of i none o h l = none (record {
-    o = o;
-    o_inside = h;
-    here = ⊎_elim (λ a. leaf_one a l) (λ n. absurd (n.1 i l)) (M.each o h);
-  })
+  none_of i none o h l = none (record { o = o; o_inside = h; here = found_is (get_or numbers o None) (M.each o h) l })
 
   pub cell_ready : Ready fs nodes first' last'
   cell_ready = record {
@@ -188,13 +183,13 @@ module _ (fs : List ℕ) (nodes : ℕ) (places : List ℕ) (at low high : ℕ) (
   cell_spans slab seen k long S = record {
     owned = λ p i l. (uppers i l.few).0 ∙ S.owned p i l;
     least = λ i h. ⊎_elim
-        (λ a. pulled_edge fs nodes slab seen places k at long room first S.owned i a.0.o a.0.o_inside (leaf_of i h a.0) downward
+        (λ a. pulled_edge fs nodes slab seen places k at long room first S.owned i a.0.o a.0.o_inside (leaf_of i a.0) downward
         (lower (get_or first i 0)) low (lower (get_or first' i 0)) a.1.first_lower (S.least i h) M.lowest)
         (λ b. kept_edge fs nodes slab seen places k at long room first S.owned i (none_of i b.0)
         (lower (get_or first i 0)) (lower (get_or first' i 0)) (ap lower (sym b.1)) (S.least i h))
         (changed i h);
     greatest = λ i h. ⊎_elim
-        (λ a. pulled_edge fs nodes slab seen places k at long room first S.owned i a.0.o a.0.o_inside (leaf_of i h a.0) upward
+        (λ a. pulled_edge fs nodes slab seen places k at long room first S.owned i a.0.o a.0.o_inside (leaf_of i a.0) upward
         (lower (get_or last i 0)) high (lower (get_or last' i 0)) a.1.last_lower (S.greatest i h) M.highest)
         (λ b. kept_edge fs nodes slab seen places k at long room first S.owned i (none_of i b.0)
         (lower (get_or last i 0)) (lower (get_or last' i 0)) (ap lower (sym b.2)) (S.greatest i h))

@@ -1,6 +1,6 @@
 -- What the steps of the call promise. While the cells are gone over, place i of the first table holds the slab of leaf i in its upper half and the least slab so far
 -- in its lower; place i of the last table holds the greatest slab so far in its lower half, and its upper one is for the leaves' numbers. Assumes nothing.
-use Rattle.std.specs.Prelude.{◌≡◌, ℕ, zero, suc, ◌+◌, ◌-◌, ◌*◌, ◌/◌, ◌%◌, ◌^◌, ◌<◌, ◌≤◌, min, max, Bool, ◌&&◌, ◌⊎◌, List, [], ◌++◌, length, ◌==◌, ◌≢◌, nat_le, slice_index, slice_index_or, slice_set}
+use Rattle.std.specs.Prelude.{◌≡◌, ℕ, zero, suc, ◌+◌, ◌-◌, ◌*◌, ◌/◌, ◌%◌, ◌^◌, ◌<◌, ◌≤◌, min, max, Bool, ◌&&◌, ◌⊎◌, List, [], ◌++◌, length, ◌==◌, ◌≢◌, nat_le, slice_index, slice_index_or, slice_set, Option, Some, None, ⊤}
 use Rattle.tree.specs.Down.{Nodes}
 use Rattle.slabs.specs.Heights.{slab_of}
 use Rattle.lifetimes.specs.declared.Halves.{Halves}
@@ -44,9 +44,10 @@ pub record PutLeaf (first : List ℕ) (number slab : ℕ) (first' : List ℕ) (r
   pub table : first' ≡ slice_set first number (65536 * slab + 65535)
   pub next : r ≡ min (number + 1) (length first + 1)
 
--- r is the number of the leaf at place p, or there is none and r is the number of leaves or more.
-abbrev pub Finds : List ℕ → ℕ → ℕ → ℕ → Type 0
-Finds firsts nodes p r = LeafAt firsts nodes p r ⊎ ((leaves_of nodes ≤ r) × ((i : ℕ) → LeafAt firsts nodes p i → ⊥))
+-- The number of the leaf at place p, if there is one.
+abbrev pub Finds : List ℕ → ℕ → ℕ → Option ℕ → Type 0
+Finds firsts nodes p (Some i) = LeafAt firsts nodes p i
+Finds firsts nodes p None = (i : ℕ) → LeafAt firsts nodes p i → ⊥
 
 -- x stands so to all numbers of a kind, and is one of them or as at the start.
 pub record Edge (so : ℕ → ℕ → Type 0) (start : ℕ) (Kind : ℕ → Type 0) (x : ℕ) : Type 0 where
@@ -75,19 +76,19 @@ pub record Meets (firsts : List ℕ) (nodes : ℕ) (first places : List ℕ) (at
   pub slab_is : upper (slice_index first leaf) ≡ y
 
 -- The numbers of the leaves of a cell, and its least and greatest slab.
-pub record MeetingSays (firsts : List ℕ) (nodes : ℕ) (first places : List ℕ) (at n : ℕ) (numbers : List ℕ) (low high : ℕ) : Type 0 where
+pub record MeetingSays (firsts : List ℕ) (nodes : ℕ) (first places : List ℕ) (at n : ℕ) (numbers : List (Option ℕ)) (low high : ℕ) : Type 0 where
   pub eight : length numbers ≡ 8
-  pub each : (o : ℕ) → o < n → Finds firsts nodes (slice_index places (8 * at + o)) (slice_index numbers o)
+  pub each : (o : ℕ) → o < n → Finds firsts nodes (slice_index places (8 * at + o)) (slice_index_or numbers o None)
   pub lowest : LeastYet (Meets firsts nodes first places at n) low
   pub highest : GreatestYet (Meets firsts nodes first places at n) high
   pub low_small : low ≤ 65535
   pub high_small : high ≤ 65535
 
 -- One of the first n numbers is i.
-pub record Among (numbers : List ℕ) (n i : ℕ) : Type 0 where
+pub record Among (numbers : List (Option ℕ)) (n i : ℕ) : Type 0 where
   pub o : ℕ
   pub o_inside : o < n
-  pub here : slice_index_or numbers o 0 ≡ i
+  pub here : slice_index_or numbers o None ≡ Some i
 
 -- Lowered to low in the lower half, raised to high: the upper halves stay.
 pub record Pulled (low high a b a' b' : ℕ) : Type 0 where
@@ -96,14 +97,19 @@ pub record Pulled (low high a b a' b' : ℕ) : Type 0 where
   pub last_upper : upper b' ≡ upper b
   pub last_lower : lower b' ≡ max (lower b) high
 
-abbrev pub PullSays : ℕ → ℕ → ℕ → List ℕ → List ℕ → List ℕ → List ℕ → Type 0
-PullSays low high i first last first' last' =
+-- A number, if there is one, has a place among so many.
+abbrev pub Inside : ℕ → Option ℕ → Type 0
+Inside many (Some i) = i < many
+Inside many None = ⊤
+
+abbrev pub PullSays : ℕ → ℕ → Option ℕ → List ℕ → List ℕ → List ℕ → List ℕ → Type 0
+PullSays low high number first last first' last' =
     (length first' ≡ length first) × (length last' ≡ length last)
-    × (i < length first → Pulled low high (slice_index first i) (slice_index last i) (slice_index first' i) (slice_index last' i))
-    × ((j : ℕ) → (j ≢ i) → (slice_index first' j ≡ slice_index first j) × (slice_index last' j ≡ slice_index last j))
+    × ((i : ℕ) → number ≡ Some i → Pulled low high (slice_index first i) (slice_index last i) (slice_index first' i) (slice_index last' i))
+    × ((j : ℕ) → (number ≢ Some j) → (slice_index first' j ≡ slice_index first j) × (slice_index last' j ≡ slice_index last j))
 
 -- At the first n numbers, and at no other.
-pub record Widened (numbers : List ℕ) (n low high : ℕ) (first last first' last' : List ℕ) : Type 0 where
+pub record Widened (numbers : List (Option ℕ)) (n low high : ℕ) (first last first' last' : List ℕ) : Type 0 where
   pub first_long : length first' ≡ length first
   pub last_long : length last' ≡ length last
   pub each : (i : ℕ) → i < length first

@@ -1,6 +1,6 @@
 #![tactic(auto)]
 // From which slab to which slab each leaf of a tree is needed, over all its dual cells, and how many leaves are needed at each slab. Ours: the Rust frees nothing.
-ghost use Rattle.std.specs.Prelude.{◌≡◌, ◌+◌, ◌*◌, ◌^◌, ◌<◌, ◌≤◌, length, take, replicate, slice_index, EachIndex};
+ghost use Rattle.std.specs.Prelude.{◌≡◌, ◌+◌, ◌*◌, ◌^◌, ◌<◌, ◌≤◌, length, take, replicate, slice_index, slice_index_or, None, EachIndex};
 ghost use Rattle.morton.specs.Level.{limit};
 ghost use Rattle.tree.specs.Tree.{the_tree, Decides};
 ghost use Rattle.tree.specs.Down.{the_nodes};
@@ -8,7 +8,7 @@ ghost use Rattle.vertices.specs.Walk.{spots_of};
 ghost use Rattle.vertices.specs.Cells.{places_of};
 ghost use Rattle.lifetimes.specs.Needed.{Room, reports_of, LifetimesSays};
 ghost use Rattle.lifetimes.specs.Trusted.{nodes_in, leaves_of, TrustingSays};
-ghost use Rattle.lifetimes.specs.Steps.{PutLeaf, Numbered, ReadyHalves, SameHalves, WidensHalves, Finds, MeetingSays, PullSays, Widened, Prepared, AllUnpacked, Within, SpansLeft, Differs, SumsUp, most_in, Counted, ReportLeft};
+ghost use Rattle.lifetimes.specs.Steps.{PutLeaf, ReadyHalves, SameHalves, WidensHalves, Finds, MeetingSays, Inside, PullSays, Widened, Prepared, AllUnpacked, Within, SpansLeft, Differs, SumsUp, most_in, Counted, ReportLeft};
 
 use refusals::Refusal;
 use tree::{Nodes, Tree};
@@ -16,7 +16,7 @@ use tree::{Nodes, Tree};
 // The leaves of a cell, and its least and greatest slab.
 #[derive(Clone, Copy)]
 struct Meeting {
-    numbers: [usize; 8],
+    numbers: [Option<usize>; 8],
     low: u32,
     high: u32,
 }
@@ -65,19 +65,19 @@ impl Halves<'_> {
         }
     }
 
-    // The number of the leaf at a place, or the number of leaves or more where there is none.
-    fn number_at(&self, place: usize) -> usize
-        requires { (length self.now.last.now ≡ leaves_of self.now.many)
-            × Numbered self.now.nodes.firsts.now self.now.many self.now.last.now }
+    // The number of the leaf at a place, if there is one.
+    fn number_at(&self, place: usize) -> Option<usize>
+        requires { ReadyHalves self.now }
         ensures { Finds self.now.nodes.firsts.now self.now.many place result }
     {
         if place >= self.many {
-            return self.last.len();
+            return None;
         }
         if self.nodes.first_at(place) != 0 {
-            return self.last.len();
+            return None;
         }
-        (self.last[place - place / 8] / 65536) as usize - place % 8 / 7
+        let number = (self.last[place - place / 8] / 65536) as usize - place % 8 / 7;
+        (number < self.first.len()).then_some(number)
     }
 
     // ---- the cells
@@ -88,13 +88,13 @@ impl Halves<'_> {
         requires at_in_bounds { 8 * at + 8 ≤ length places.now }
         ensures { MeetingSays self.now.nodes.firsts.now self.now.many self.now.first.now places.now at 8 result.numbers result.low result.high }
     {
-        let mut numbers = [0usize; 8];
+        let mut numbers = [None; 8];
         let mut low: u32 = 65535;
         let mut high: u32 = 0;
         for o in 0..8 {
             let number = self.number_at(places[8 * at + o]);
             numbers[o] = number;
-            if number < self.first.len() {
+            if let Some(number) = number {
                 let slab = self.first[number] / 65536;
                 low = low.min(slab);
                 high = high.max(slab);
@@ -104,12 +104,13 @@ impl Halves<'_> {
     }
 
     // Pulls the span of a leaf apart, if it is one.
-    fn pull(&mut self, number: usize, low: u32, high: u32)
-        requires { (length self.old.first.now ≡ length self.old.last.now) × (low ≤ 65535) × (high ≤ 65535) }
+    fn pull(&mut self, number: Option<usize>, low: u32, high: u32)
+        requires as_long { (length self.old.first.now ≡ length self.old.last.now) × (low ≤ 65535) × (high ≤ 65535) }
+        requires inside { Inside (length self.old.first.now) number }
         ensures same { SameHalves self.old self.new }
         ensures pulled { PullSays low high number self.old.first.now self.old.last.now self.new.first.now self.new.last.now }
     {
-        if number < self.first.len() {
+        if let Some(number) = number {
             let a = self.first[number];
             self.first[number] = a - a % 65536 + (a % 65536).min(low);
             let b = self.last[number];
@@ -119,7 +120,8 @@ impl Halves<'_> {
 
     // The same for each leaf of a cell.
     fn pull_all(&mut self, cell: Meeting)
-        requires { (length self.old.first.now ≡ length self.old.last.now) × (cell.low ≤ 65535) × (cell.high ≤ 65535) }
+        requires as_long { (length self.old.first.now ≡ length self.old.last.now) × (cell.low ≤ 65535) × (cell.high ≤ 65535) }
+        requires inside { EachIndex cell.numbers (λ o. Inside (length self.old.first.now) (slice_index_or cell.numbers o None)) }
         ensures same { SameHalves self.old self.new }
         ensures widened { Widened cell.numbers 8 cell.low cell.high self.old.first.now self.old.last.now self.new.first.now self.new.last.now }
     {
