@@ -3,7 +3,6 @@ pub mod Same
 pub mod Numbers
 pub mod Edges
 pub mod Spanning
-pub mod Going
 pub mod Counting
 pub mod Leaves
 pub mod Cells

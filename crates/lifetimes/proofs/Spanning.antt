@@ -207,9 +207,14 @@ widens_none fs nodes first last R = record {
   spans = λ slab seen k long S. subst (λ (xs : List ℕ). Spanned fs nodes slab xs first last) (sym (append-nil seen)) S;
 }
 
-pub widens_then : (fs : List ℕ) (nodes : ℕ) (more : List ℕ) (cells : ℕ) (next first₀ last₀ first last first' last' : List ℕ) → length more ≡ 8 * cells
-    → Widens fs nodes more first₀ last₀ first last → Widens fs nodes next first last first' last' → Widens fs nodes (more ++ next) first₀ last₀ first' last'
-widens_then fs nodes more cells next first₀ last₀ first last first' last' e A B = record {
+-- what tables tell of the cells before
+abbrev pub Told : List ℕ → ℕ → List ℕ → List ℕ → List ℕ → List ℕ → List ℕ → Type 0
+Told fs nodes first₀ last₀ first last seen = Widens fs nodes seen first₀ last₀ first last
+
+pub widens_then : (fs : List ℕ) (nodes : ℕ) (next first₀ last₀ first last first' last' : List ℕ) → Widens fs nodes next first last first' last'
+    → (more : List ℕ) (cells : ℕ) → length more ≡ 8 * cells → Told fs nodes first₀ last₀ first last more
+    → Told fs nodes first₀ last₀ first' last' (more ++ next)
+widens_then fs nodes next first₀ last₀ first last first' last' B more cells e A = record {
   ready = B.ready;
   spans = λ slab seen k long S.
       subst (λ (xs : List ℕ). Spanned fs nodes slab xs first' last') (append_assoc seen more next)
@@ -223,8 +228,8 @@ pub widens_more : (fs : List ℕ) (nodes at : ℕ) (places first₀ last₀ firs
 widens_more fs nodes at places first₀ last₀ first last first' last' h A B =
     let e : 8 * (at + 1) ≡ 8 * at + 8 = omega arith in
     subst (λ (xs : List ℕ). Widens fs nodes xs first₀ last₀ first' last') (sym (ap (λ (n : ℕ). take n places) e ∙ take-add (8 * at) 8 places))
-    (widens_then fs nodes (take (8 * at) places) at (take 8 (drop (8 * at) places)) first₀ last₀ first last first' last'
-    (omega (arith, length-take (8 * at) places)) A B)
+    (widens_then fs nodes (take 8 (drop (8 * at) places)) first₀ last₀ first last first' last' B (take (8 * at) places) at
+    (omega (arith, length-take (8 * at) places)) A)
 
 -- ---- all of them
 

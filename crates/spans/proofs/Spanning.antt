@@ -139,9 +139,14 @@ widens_none nodes first last R = record {
   spans = λ height seen k long S. subst (λ (xs : List ℕ). Spanned nodes height xs first last) (sym (append-nil seen)) S;
 }
 
-pub widens_then : (nodes : ℕ) (more : List ℕ) (cells : ℕ) (next first₀ last₀ first last first' last' : List ℕ) → length more ≡ 8 * cells
-    → Widens nodes more first₀ last₀ first last → Widens nodes next first last first' last' → Widens nodes (more ++ next) first₀ last₀ first' last'
-widens_then nodes more cells next first₀ last₀ first last first' last' e A B = record {
+-- what tables tell of the cells before
+abbrev pub Told : ℕ → List ℕ → List ℕ → List ℕ → List ℕ → List ℕ → Type 0
+Told nodes first₀ last₀ first last seen = Widens nodes seen first₀ last₀ first last
+
+pub widens_then : (nodes : ℕ) (next first₀ last₀ first last first' last' : List ℕ) → Widens nodes next first last first' last'
+    → (more : List ℕ) (cells : ℕ) → length more ≡ 8 * cells → Told nodes first₀ last₀ first last more
+    → Told nodes first₀ last₀ first' last' (more ++ next)
+widens_then nodes next first₀ last₀ first last first' last' B more cells e A = record {
   ready = B.ready;
   spans = λ height seen k long S.
       subst (λ (xs : List ℕ). Spanned nodes height xs first' last') (append_assoc seen more next)
@@ -155,5 +160,5 @@ pub widens_more : (nodes at : ℕ) (places first₀ last₀ first last first' la
 widens_more nodes at places first₀ last₀ first last first' last' h A B =
     let e : 8 * (at + 1) ≡ 8 * at + 8 = omega arith in
     subst (λ (xs : List ℕ). Widens nodes xs first₀ last₀ first' last') (sym (ap (λ (n : ℕ). take n places) e ∙ take-add (8 * at) 8 places))
-    (widens_then nodes (take (8 * at) places) at (take 8 (drop (8 * at) places)) first₀ last₀ first last first' last'
-    (omega (arith, length-take (8 * at) places)) A B)
+    (widens_then nodes (take 8 (drop (8 * at) places)) first₀ last₀ first last first' last' B (take (8 * at) places) at
+    (omega (arith, length-take (8 * at) places)) A)
