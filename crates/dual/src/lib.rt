@@ -115,6 +115,8 @@ fn refused(refusal: Refusal) -> Dual
     }
 }
 
+// Kept: nodes and distances, and a vertex and its level, one by one: who wants no distances lends none, and a vertex may be asked for at any level, also at a wrong one.
+
 // The dual cell, for one who knows that the tree is sound: who reads much checks it once. Of other tables, what the same lookups come to. A
 // table of one key is the root alone, which has none.
 pub fn dual_cell_trusting(nodes: &Nodes, distances: &[f32], vertex: u64, level: u32) -> Dual

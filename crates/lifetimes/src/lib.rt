@@ -37,6 +37,7 @@ fn put_leaf(first: &mut [u32], number: usize, slab: u32) -> usize
 // Both tables of slabs with the nodes whose leaves they are for, so many as are looked at. While the cells are gone over, the upper halves are for finding leaves: place i
 // of `first` has the slab of leaf i there, and `last` the number of the leaf at each place, in one slot fewer for each eight places: of 8j + 7 and 8j + 8 the first's
 // number is the second's less one, if both are leaves.
+// Kept: that both tables are equally long is asked for by clauses, since the borrow check covers no ghost field beside a `&mut`.
 #[derive(Drop)]
 struct Halves<'a> {
     nodes: Nodes<'a>,
@@ -193,6 +194,8 @@ impl Halves<'_> {
 
 // ---- counting
 
+// Kept: the three tables of a report one by one, since two steps only read what the third writes.
+
 // One up at a leaf's first slab, one down after its last.
 fn differ(first: &[u32], last: &[u32], needed: &mut [u32])
     requires first_len { (length first.now ≡ length last.now) × Within last.now (length needed.old) }
@@ -225,6 +228,7 @@ fn sum_up(first: &[u32], last: &[u32], needed: &mut [u32])
 }
 
 // The greatest number in a table: in a loop of its own, since the compiler then takes several numbers at once.
+// Kept: no plainer. `max` of the iterator answers an `Option`, and of an empty table the answer is 0.
 fn greatest_in(table: &[u32]) -> u32
     ensures { result ≡ most_in table.now (length table.now) }
 {

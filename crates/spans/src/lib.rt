@@ -34,6 +34,7 @@ pub fn leaves_in(length: usize) -> usize
 // four siblings, which lie equally high.
 
 // How many nodes are looked at, and both tables, which are as long as there are leaves.
+// Kept: how long both tables are is asked for by clauses, since the borrow check covers no ghost field beside a `&mut`.
 #[derive(Drop)]
 struct Tables<'a> {
     many: usize,
