@@ -7,33 +7,33 @@ ghost use Rattle.refusals.specs.Refusals.{number, Hands};
 #[derive(Clone, Copy, Debug, PartialEq, Eq, Hash)]
 pub enum Refusal {
     // Not a cell key.
-    NotACell,
+    NotACell = 1,
     // A child, corner or side above 7.
-    AboveSeven,
+    AboveSeven = 2,
     // A child of level 21; or the level given isn't the key's own.
-    WrongLevel,
+    WrongLevel = 3,
     // Not an inner vertex at that level; or, where a tree is given, it is the root alone.
-    NotAVertex,
+    NotAVertex = 4,
     // A bound or slab exponent above 15.
-    AboveFifteen,
+    AboveFifteen = 5,
     // No room for another node.
-    NodesFull,
+    NodesFull = 6,
     // Unsplit, and no room for another leaf.
-    LeavesFull,
+    LeavesFull = 7,
     // Split, and no room in the queue for eight children.
-    QueueFull,
+    QueueFull = 8,
     // Nothing is asked: the build is finished.
-    NothingAsked,
+    NothingAsked = 9,
     // The state doesn't fit the tables.
-    NotFitting,
+    NotFitting = 10,
     // Not a sound tree.
-    NotSound,
+    NotSound = 11,
     // A start place past the end of either table, or fewer places left than vertices.
-    ListFull,
+    ListFull = 12,
     // An infinite or NaN distance.
-    NotFinite,
+    NotFinite = 16,
     // A report table too short.
-    ReportShort,
+    ReportShort = 17,
 }
 
 impl Refusal {
@@ -41,22 +41,7 @@ impl Refusal {
     pub fn number(self) -> u32
         ensures { result ≡ number self }
     {
-        match self {
-            Refusal::NotACell => 1,
-            Refusal::AboveSeven => 2,
-            Refusal::WrongLevel => 3,
-            Refusal::NotAVertex => 4,
-            Refusal::AboveFifteen => 5,
-            Refusal::NodesFull => 6,
-            Refusal::LeavesFull => 7,
-            Refusal::QueueFull => 8,
-            Refusal::NothingAsked => 9,
-            Refusal::NotFitting => 10,
-            Refusal::NotSound => 11,
-            Refusal::ListFull => 12,
-            Refusal::NotFinite => 16,
-            Refusal::ReportShort => 17,
-        }
+        self as u32
     }
 }
 
