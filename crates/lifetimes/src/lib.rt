@@ -145,6 +145,7 @@ impl Halves<'_> {
     }
 
     // Goes over the cells of all vertices, 64 at a time: so many that beginning anew at the root costs little, and so few that they fit on the stack.
+    // Kept: the like of the one in `spans`. One function of a size and a closure would need a relation over batches in its contract, and be no shorter.
     fn go_over(&mut self)
         requires { ReadyHalves self.old }
         ensures same { SameHalves self.old self.new }

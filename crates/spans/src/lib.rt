@@ -185,6 +185,7 @@ impl Tables<'_> {
     }
 
     // Goes over the cells of all vertices.
+    // Kept: the like of the one in `lifetimes`, which says why.
     fn go_over(&mut self, nodes: &Nodes)
         requires many_value { self.old.many ≡ nodes_in (the_nodes nodes.now) }
         requires ready { Ready self.old.many self.old.first.now self.old.last.now }
