@@ -57,7 +57,7 @@ pub record Putting (q₀ : List ℕ) (k item : ℕ) (q : List ℕ) (at i : ℕ) 
   pub place : at ≡ (item + i) % length q₀
   pub stored : q ≡ children_to i q₀ k item
 
-putting_length : (q₀ : List ℕ) (k item : ℕ) (q : List ℕ) (at i : ℕ) → Putting q₀ k item q at i → length q ≡ length q₀
+pub putting_length : (q₀ : List ℕ) (k item : ℕ) (q : List ℕ) (at i : ℕ) → Putting q₀ k item q at i → length q ≡ length q₀
 putting_length q₀ k item q at i p = rw p.stored (length_children i q₀ k item)
 
 pub putting_start : (q₀ : List ℕ) (k item at : ℕ) → at ≡ item % length q₀ → Putting q₀ k item q₀ at 0

@@ -82,6 +82,9 @@ pub record Told (ns : Nodes) (L q n : ℕ) (ways : List Node) : Type 0 where
   pub way : (j : ℕ) → n ≤ j → j < 8 → bit_and j (q % 8) ≡ 0 → NodeSays ns L (8 * (sub q j / 8)) (get_or ways j none).level (get_or ways j none).place
 
 module _ (ns : Nodes) (L q : ℕ) where
+  pub told_none : (ways : List Node) → length ways ≡ 8 → Told ns L q 8 ways
+  told_none ways e = record { most = omega arith; on_even = no_eight (q % 8) (omega arith); eight = e; way = λ j h g. absurd (omega arith) }
+
   -- the side before n
   module _ (n : ℕ) (ways : List Node) (t : Told ns L q n ways) where
     abbrev before : ℕ

@@ -1,8 +1,8 @@
 -- Least and greatest so far, and what a cell adds to the spans of its leaves. Assumes nothing.
-use Rattle.std.proofs.Common.{◌≡◌, ℕ, ◌+◌, ◌*◌, ◌<◌, ◌≤◌, min, max, ◌⊎◌, List, length, get_or, set, Option, Some, None, sym, refl, ap, ◌∙◌, subst, inl, inr, ⊎_elim, arith, length-set, get_or-set_other, get_or-set_same}
+use Rattle.std.proofs.Common.{◌≡◌, ℕ, ◌+◌, ◌-◌, ◌*◌, ◌%◌, ◌<◌, ◌≤◌, min, max, ◌⊎◌, List, length, get_or, set, Option, Some, None, sym, refl, ap, ◌∙◌, subst, inl, inr, ⊎_elim, arith, length-set, get_or-set_other, get_or-set_same}
 use Rattle.tree.proofs.Lists.{order}
 use Rattle.lifetimes.specs.Trusted.{LeafAt}
-use Rattle.lifetimes.specs.Steps.{upper, Finds, Edge, NoMore, NoLess, Meets, MeetingSays, Among, Pulled, PullSays, Widened}
+use Rattle.lifetimes.specs.Steps.{upper, lower, Finds, Edge, NoMore, NoLess, Meets, MeetingSays, Among, Pulled, PullSays, Widened}
 use Rattle.spans.proofs.HowMany.{same}
 use Rattle.lifetimes.proofs.Numbers.{leaf_one}
 
@@ -116,6 +116,10 @@ module _ (fs : List ℕ) (nodes : ℕ) (first places : List ℕ) (at : ℕ) wher
       }
 
 -- ---- pulling
+
+-- a half is put in another's place
+pub halves : (a r : ℕ) → r < 65536 → (upper (a - a % 65536 + r) ≡ upper a) × (lower (a - a % 65536 + r) ≡ r)
+halves a r h = (omega arith, omega arith)
 
 -- there is a number, and it is i
 abbrev Is : ℕ → Option ℕ → Type 0

@@ -77,3 +77,6 @@ shifted_up s k h g =
 
 pub at_within : (s k r : ℕ) → s ≤ limit → r ≡ slab_of s k → r ≡ slab_at s k
 at_within s k r h e = e ∙ sym (ap (λ (r : Bool). if₀ r (slab_of s k) 0) (le-leb s limit h))
+
+pub at_above : (s k : ℕ) → limit < s → 0 ≡ slab_at s k
+at_above s k h = sym (ap (λ (r : Bool). if₀ r (slab_of s k) 0) (lt-leb s limit h))

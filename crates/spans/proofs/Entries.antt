@@ -12,7 +12,7 @@ use Rattle.spans.proofs.Raising.{raised_small}
 use Rattle.spans.proofs.Memory.{own_is}
 
 module _ (places : List ℕ) (at n reach : ℕ) (first₀ last₀ first last : List ℕ) (A : AllRaised places at n reach first₀ last₀ first last) where
-  words_small : (nodes : ℕ) → Ready nodes first₀ last₀ → Small reach → (p : ℕ) → p < nodes → Small (get_or (first ++ last) p 0)
+  pub words_small : (nodes : ℕ) → Ready nodes first₀ last₀ → Small reach → (p : ℕ) → p < nodes → Small (get_or (first ++ last) p 0)
   words_small nodes R small p h =
       ⊎_elim (λ a. raised_small (R.words p h) small a.1) (λ b. subst Small (sym b.1) (R.words p h)) (A.each p)
 

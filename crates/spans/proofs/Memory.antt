@@ -28,6 +28,10 @@ words_stay first first' last p l e =
     (λ h. in_last first' last p (omega arith) ∙ ap (λ (n : ℕ). get_or last (p - n) 0) l ∙ sym (in_last first last p h))
     (order p (length first))
 
+-- there is a place behind the words for the slabs of each four siblings
+pub own_room : (nodes p : ℕ) (last : List ℕ) → length last ≡ leaves_of nodes → p < nodes → nodes - length last + (p + 3) / 4 < length last
+own_room nodes p last e h = omega (arith, e)
+
 -- the slab of the node at place p stands behind the words
 pub own_is : (nodes p : ℕ) (first last : List ℕ) → length first ≡ leaves_of nodes → length last ≡ leaves_of nodes
     → get_or (first ++ last) (nodes + (p + 3) / 4) 0 ≡ own nodes last p

@@ -19,7 +19,7 @@ pub slab_small : (s k : ℕ) → s ≤ limit → slab_of s k < 32768
 slab_small s k h = omega (arith, slab_lt s k, pow_mono {i = s} {j = 15} h)
 
 -- where the next four begin, after those at p
-abbrev next_four : ℕ → ℕ
+abbrev pub next_four : ℕ → ℕ
 next_four p = 4 * ((p + 3) / 4) + 1
 
 -- what is taken down of the places below p
@@ -29,7 +29,7 @@ pub record SlabsTo (n : Nodes) (s nodes : ℕ) (last₀ last : List ℕ) (p : �
   before : (i : ℕ) → i < nodes - length last₀ → get_or last i 0 ≡ get_or last₀ i 0
   each : (q : ℕ) → q < p → q < nodes → own nodes last q ≡ slab_of_place n s q
 
-slabs_none : (n : Nodes) (s nodes : ℕ) (last : List ℕ) → SlabsTo n s nodes last last 0
+pub slabs_none : (n : Nodes) (s nodes : ℕ) (last : List ℕ) → SlabsTo n s nodes last last 0
 slabs_none n s nodes last = record { four = refl; as_long = refl; before = λ i h. refl; each = λ q h. absurd (omega arith) }
 
 module _ (n : Nodes) (s nodes : ℕ) (last₀ last : List ℕ) (p x : ℕ) (T : SlabsTo n s nodes last₀ last p)
@@ -37,7 +37,7 @@ module _ (n : Nodes) (s nodes : ℕ) (last₀ last : List ℕ) (p x : ℕ) (T : 
   abbrev at : ℕ
   at = nodes - length last₀ + (p + 3) / 4
 
-  at_room : at < length last
+  pub at_room : at < length last
   at_room = omega (arith, long, T.as_long)
 
   abbrev last' : List ℕ
@@ -49,7 +49,7 @@ module _ (n : Nodes) (s nodes : ℕ) (last₀ last : List ℕ) (p x : ℕ) (T : 
   index : (q : ℕ) → nodes - length last' + (q + 3) / 4 ≡ nodes - length last₀ + (q + 3) / 4
   index q = omega (arith, long')
 
-  slabs_next : s ≤ limit → x ≡ slab_at s (get_or n.keys p 0) → SlabsTo n s nodes last₀ last' (next_four p)
+  pub slabs_next : s ≤ limit → x ≡ slab_at s (get_or n.keys p 0) → SlabsTo n s nodes last₀ last' (next_four p)
   slabs_next small e = record {
     four = omega arith;
     as_long = long';

@@ -8,7 +8,7 @@ use native.Mathlib.Nat.{pow-suc}
 use native.Mathlib.Omega.{arith}
 use lib.Dec.{eqb, ltb}
 use lib.ListN.{length, get_or}
-use borrow.Author.Tests.{lt-ltb, ltb-true, eq-eqb, ne_eqb, eqb-true}
+use borrow.Author.Tests.{lt-ltb, le-ltb, ltb-true, eq-eqb, ne_eqb, eqb-true}
 use Rattle.morton.specs.Level.{if₀, Cell}
 use Rattle.morton.proofs.Levels.{and_true, eight_pos}
 use Rattle.tree.specs.Tree.{Tree, StandsAt, In, FirstChild, Sound, Decides}
@@ -26,6 +26,16 @@ module _ (ks : List ℕ) (first child : ℕ) where
   pub leads_none : (first % 8 ≡ 1 → ⊥) → leads ks first child ≡ false
   unfolding leads
   leads_none e = ap (λ (r : Bool). r && (ltb (first + 7) (length ks) && eqb (get_or ks first 0) child)) (ne_eqb (first % 8) 1 e)
+
+  pub leads_past : first % 8 ≡ 1 → length ks ≤ first + 7 → leads ks first child ≡ false
+  unfolding leads
+  leads_past p h =
+      ap₂ ◌&&◌ (eq-eqb (first % 8) 1 p) (ap (λ (r : Bool). r && eqb (get_or ks first 0) child) (le-ltb (first + 7) (length ks) h))
+
+  pub leads_key : first % 8 ≡ 1 → first + 7 < length ks → leads ks first child ≡ eqb (get_or ks first 0) child
+  unfolding leads
+  leads_key p h =
+      ap₂ ◌&&◌ (eq-eqb (first % 8) 1 p) (ap (λ (r : Bool). r && eqb (get_or ks first 0) child) (lt-ltb (first + 7) (length ks) h))
 
   pub leads_in : leads ks first child ≡ true → (first % 8 ≡ 1) × (first + 7 < length ks) × (get_or ks first 0 ≡ child)
   unfolding leads

@@ -118,9 +118,24 @@ module _ (n : Nodes) where
           at = ap (λ (m : ℕ). place_over n m x) (sym s) ∙ stop (place_over n) (λ l x e. place_next n l x e) l (L - l) x t ∙ g.at;
         }
 
+  pub going_end : (L x l place : ℕ) → L ≤ l → Going L x l place → NodeOver n L x l place
+  going_end L x l place h g =
+      let e : l ≡ L = omega (arith, g.deep) in
+      let z : L - l ≡ 0 = omega arith in
+      let y : x / 8 ^ (L - l) ≡ x = ap (λ (m : ℕ). x / 8 ^ m) z ∙ div-one x in
+      record {
+        no_deeper = g.deep;
+        is = ap₂ (over n) (sym e) (sym y) ∙ g.node;
+        its_level = ap₂ (level_over n) (sym e) (sym y) ∙ g.own;
+        at = ap₂ (place_over n) (sym e) (sym y) ∙ g.at;
+      }
+
 -- of a level that a cell may have, it is the node over the cell
 pub says_over : (n : Nodes) (L x l place : ℕ) → L ≤ deepest → NodeSays n L x l place → NodeOver n L x l place
 says_over n L x l place h s = ⊎_elim (λ v. v.1) (λ z. absurd (omega (arith, z.0))) s
+
+pub says_deep : (n : Nodes) (L x l place : ℕ) → NodeSays n L x l place → l ≤ L
+says_deep n L x l place s = ⊎_elim (λ v. v.1.no_deeper) (λ z. omega (arith, z.1)) s
 
 -- the node over a cell from that over the first of its eight cells: they stand in a row where their parent is split, and else have the same one
 module _ (n : Nodes) (L x l place : ℕ) (v : NodeOver n (suc L) (8 * (x / 8)) l place) where

@@ -212,7 +212,7 @@ lowered_is at mask q o e = ap (λ (r : Bool). if₀ r (get_or at (bit_and o (7 -
 module _ (ks : Nodes) (l c : ℕ) (at : List ℕ) (mask low : ℕ) (h : Here ks l c at mask low) where
   -- a split entry is the cell that lies that way
   module _ (hl : l ≤ limit) (hc : Cell l c) where
-    here_side : (o : ℕ) → o < 8 → marked mask o ≡ true → sub c o ≡ entry ks l c o
+    pub here_side : (o : ℕ) → o < 8 → marked mask o ≡ true → sub c o ≡ entry ks l c o
     here_side o ho e = side_entry ks l c o hl hc ho (sym (h.marks o ho) ∙ e)
 
     pub here_small : Small c mask

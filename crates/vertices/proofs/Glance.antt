@@ -41,12 +41,12 @@ kept_only : (q o : ℕ) → q < 8 → o < 8 → marked (kept_by q) o ≡ true �
 kept_only q o hq ho e = eqb-true (bit_and o (7 - q)) o (sym (ap (λ (r : Bool). not r || eqb (bit_and o (7 - q)) o) e) ∙ kept_test q o hq ho)
 
 module _ (mask q m : ℕ) (hq : q < 8) (e : m ≡ kept_by q) where
-  touched_none : (low : ℕ) → bit_and mask m ≡ 0 → Touched low mask q → ⊥
+  pub touched_none : (low : ℕ) → bit_and mask m ≡ 0 → Touched low mask q → ⊥
   touched_none low z t =
       let i = bit_and t.fine.0 (7 - q) in
       true≢false (sym t.fine.2 ∙ apart mask m i z (ap (λ (n : ℕ). marked n i) e ∙ kept_bit q t.fine.0 hq t.fine.1))
 
-  touched_yes : (low : ℕ) → mask < 2 ^ 8 → bit_and low (7 - q) ≡ 0 → (bit_and mask m ≡ 0 → ⊥) → Touched low mask q
+  pub touched_yes : (low : ℕ) → mask < 2 ^ 8 → bit_and low (7 - q) ≡ 0 → (bit_and mask m ≡ 0 → ⊥) → Touched low mask q
   touched_yes low h z n =
       let s = shared 8 mask m h n in
       record {

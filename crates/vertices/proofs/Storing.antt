@@ -216,7 +216,7 @@ module _ (ks : Nodes) where
       unfolding in_turn
       partly_none at t = stored_none at t
 
-      partly_more : (q at n r : ℕ) (t0 t1 t2 : Cells) → SameSize t0 t1 → Partly l c q at n t0 t1 → Grown l c q n r t1 t2 → Partly l c (q + 1) at r t0 t2
+      pub partly_more : (q at n r : ℕ) (t0 t1 t2 : Cells) → SameSize t0 t1 → Partly l c q at n t0 t1 → Grown l c q n r t1 t2 → Partly l c (q + 1) at r t0 t2
       unfolding in_turn
       partly_more q at n r t0 t1 t2 k a b =
           subst (λ (k : ℕ). Partly l c k at r t0 t2) (sym (add-one q))
@@ -322,6 +322,9 @@ module _ (ks : Nodes) (from room : ℕ) where
   pub grown_on : (l c q n r : ℕ) (t0 t1 : Cells) → Stored ks from room (walked (limit - (l + 1)) ks (l + 1) (8 * c + q)) n r t0 t1
       → Grown ks from room l c q n r t0 t1
   grown_on l c q n r t0 t1 a = subst (λ (k : ℕ). Stored ks from room (walked (limit - k) ks k (8 * c + q)) n r t0 t1) (add-one l) a
+
+  pub stored_room : (ss : List Spot) (at r : ℕ) (t0 t1 : Cells) → at ≤ room → Stored ks from room ss at r t0 t1 → r ≤ room
+  stored_room ss at r t0 t1 h a = omega (arith, a.count, wanted_most from (room - at) ss)
 
   -- one more child, in the same tables, no further than there is room
   pub partly_step : (l c q at n r : ℕ) (t0 t1 t2 : Out) → SameOut t0 t1 × (n ≤ room) × Partly ks from room l c q at n (the_cells t0) (the_cells t1)
