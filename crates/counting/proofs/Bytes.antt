@@ -70,6 +70,12 @@ unfolding after_all
 after_refused [] e t = refl
 after_refused (d ∷ ds) e t = after_refused ds e t
 
+-- an answer that asks for nothing is one of these
+after_idle : (ds : List Float) (a : Result Answer Refusal) (t : Tables) → ((r : Request) (s : State) → a ≡ Ok (Ask r s) → ⊥) → after_all ds (outcome a t) ≡ outcome a t
+after_idle ds (Ok (Ask r s)) t k = absurd (k r s refl)
+after_idle ds (Ok (Finished s)) t k = after_finished ds s t
+after_idle ds (Err e) t k = after_refused ds e t
+
 -- ---- the loop of `drive`
 
 -- What all of an input leads to, and that what is left of it leads there from the last answer.
@@ -123,3 +129,6 @@ module _ {bound : ℕ} {bytes : List ℕ} {was : Tables} where
     pub ends_refused : {e : Refusal} → a ≡ Err e → outcome (Err e) t ≡ whole_of bound bytes was
     ends_refused {e} f =
         sym (after_refused (map float_of left) e t) ∙ ap (λ (x : Result Answer Refusal). after_all (map float_of left) (outcome x t)) (sym f) ∙ h.leads
+
+    pub ends_idle : ((r : Request) (s : State) → a ≡ Ok (Ask r s) → ⊥) → outcome a t ≡ whole_of bound bytes was
+    ends_idle k = sym (after_idle (map float_of left) a t k) ∙ h.leads

@@ -1,5 +1,5 @@
 -- What the program `counts` prints for the bytes of its input, in document 01's words. Assumes nothing.
-use Rattle.std.specs.Prelude.{ℕ, zero, suc, ◌+◌, ◌*◌, ◌/◌, ◌%◌, cond, List, [], ◌∷◌, ◌++◌, ltb, take, replicate, Float, Result, Ok, Err}
+use Rattle.std.specs.Prelude.{ℕ, zero, suc, ◌+◌, ◌-◌, ◌*◌, ◌/◌, ◌%◌, ◌≤◌, ◌≡◌, cond, List, [], ◌∷◌, ◌++◌, ltb, length, take, replicate, Float, Result, Ok, Err}
 use Rattle.std.specs.Float.Ieee.{of_bits}
 use Rattle.std.specs.Float.{binary32}
 use Rattle.build.specs.declared.Answer.{Answer}
@@ -89,3 +89,13 @@ line_at o = line_for o.answer o.tables
 unfoldable pub line_of : List ℕ → List ℕ
 line_of [] = short_line
 line_of (bound ∷ bytes) = line_at (after_all (distances_in bytes) (outcome (start_of bound lent) lent))
+
+-- The bytes of a text: its line, and zeros up to 64.
+abbrev pub bytes_of : List ℕ → List ℕ
+bytes_of line = line ++ replicate (64 - length line) 0
+
+-- 64 bytes hold the line, and then zeros.
+pub record Holds (line bytes : List ℕ) (count : ℕ) : Type 0 where
+  pub fits : length line ≤ 64
+  pub bytes_are : bytes ≡ line ++ replicate (64 - length line) 0
+  pub count_is : count ≡ length line

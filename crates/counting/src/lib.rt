@@ -1,11 +1,11 @@
 #![tactic(auto)]
 // What document 01's program `counts` prints for the bytes of its input: a bound byte and then f32 distances, little-endian, in the order in which
 // they are asked for.
-ghost use Rattle.std.specs.Prelude.{◌≡◌, ℕ, ◌+◌, ◌≤◌, ◌<◌, List, [], ◌∷◌, ◌++◌, length, take};
+ghost use Rattle.std.specs.Prelude.{◌≡◌, ◌+◌, ◌≤◌, ◌<◌, [], ◌∷◌, ◌++◌, length, take};
 ghost use Rattle.refusals.specs.Refusals.{number};
 ghost use Rattle.build.specs.Build.{tables_in, outcome, start_of};
 ghost use Rattle.counting.specs.Vertices.{vertex_count};
-ghost use Rattle.counting.specs.Printed.{distances_in, after_all, decimal, short_line, refused_line, counts_line, tree_line, line_of};
+ghost use Rattle.counting.specs.Printed.{distances_in, after_all, decimal, short_line, refused_line, counts_line, tree_line, line_of, bytes_of, Holds};
 ghost use Rattle.counting.specs.Writing.{float_of, Built, listed_of};
 
 use build::{Answer, State, Tables};
@@ -13,19 +13,28 @@ use refusals::Refusal;
 use std::marker::Model;
 use tree::{Nodes, Tree};
 
-// A line's bytes, of which there are 64 at most.
-#[derive(Drop)]
+// A line's bytes, of which there are 64 at most; zeros follow.
+#[derive(Clone, Copy)]
 pub struct Text {
     bytes: [u8; 64],
     count: usize,
 }
 
 impl Model for Text {
+    ghost use Rattle.std.specs.Prelude.{ℕ, List, length, take};
+    ghost use Rattle.std.proofs.Common.{sym};
+    ghost use Rattle.counting.specs.Printed.{bytes_of, Holds};
+
     ghost Value = { List ℕ };
 
     ghost view = { λ t. take t.count t.bytes };
 
-    ghost invariant = { λ t. t.count ≤ 64 };
+    ghost invariant = { λ t. Holds (take t.count t.bytes) t.bytes t.count };
+
+    // What a contract sees forgets nothing, so that a text may be copied.
+    ghost inverse = { λ line. record { bytes = bytes_of line; count = length line } };
+
+    ghost inverse_ok = { λ t h i. record { bytes = sym h.bytes_are i; count = sym h.count_is i } };
 }
 
 // ---- writing
@@ -44,6 +53,20 @@ impl Text {
         ensures { result.now ≡ self.now }
     {
         &self.bytes[..self.count]
+    }
+
+    // The line, and zeros behind it.
+    pub fn bytes(&self) -> [u8; 64]
+        ensures { result ≡ bytes_of self.now }
+    {
+        self.bytes
+    }
+
+    // How many of them are the line.
+    pub fn length(&self) -> usize
+        ensures { result ≡ length self.now }
+    {
+        self.as_bytes().len()
     }
 
     fn put(&mut self, byte: u8)
@@ -174,6 +197,7 @@ fn tree_line(s: State, tables: &Tables) -> Text
 pub fn line(input: &[u8]) -> Text
     ensures line { result ≡ line_of input.now }
     ensures fits { length result ≤ 64 }
+    ensures holds { Holds (line_of input.now) (bytes_of result) (length result) }
 {
     let Some((bound, bytes)) = input.split_first() else {
         return short();

@@ -36,7 +36,8 @@ use Rattle.slabs.proofs.One as slabs
 use Rattle.lifetimes.specs.Needed.{Reports, LifetimesSays}
 use Rattle.lifetimes.specs.Trusted.{TrustingSays as LifetimesTrustingSays}
 use Rattle.lifetimes.proofs.One as lifetimes
-use Rattle.counting.specs.Printed.{line_of}
+use Rattle.counting.specs.declared.Text.TheInside.{Inside as Text}
+use Rattle.counting.specs.Printed.{line_of, Holds}
 use Rattle.counting.proofs.One as counting
 use Rattle.mittenhelm_keys.specs.Keys.{HandsKey, HandsSize, Three, HandsCentre}
 use Rattle.mittenhelm_keys.proofs.One as keys
@@ -187,8 +188,11 @@ lifetimes_trusting_one = lifetimes.lifetimes_trusting_one
 
 -- ---- the line that `counts` prints
 
-pub line_one : (input : List ℕ) → OnlyOne (λ (line : List ℕ). line ≡ line_of input)
+pub line_one : (input : List ℕ) → OnlyOne (λ (t : Text). Holds (line_of input) t.bytes t.count)
 line_one = counting.line_one
+
+pub text_one : (input : List ℕ) → OnlyOne (λ (line : List ℕ). line ≡ line_of input)
+text_one = counting.text_one
 
 -- ---- exported calls: the number that is returned, and what the out parameters hold then
 
