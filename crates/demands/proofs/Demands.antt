@@ -25,7 +25,7 @@ building bound lent given s t run =
     record {
       covers = covers s t h;
       fitting = fits_traced s t h;
-      never_10 = λ d. never_10 s d t (fits_traced s t h);
+      never_10 = λ d k. never_10 s d t k (fits_traced s t h);
       broken_refused = λ asks d. broken_refused s d t (fits_traced s t h) asks;
       only_broken = λ d. only_broken s d t;
       finite_given = h.known;

@@ -1,6 +1,6 @@
 -- The counts and the cells of a run's states, and that the states fit their tables: 10 is never given. Assumes nothing.
 use Prim.Native.Nat.{ℕ, zero, suc, ◌+◌, ◌-◌, ◌*◌, ◌≤◌}
-use mathlib.Core.Path.{◌≡◌, refl, sym, ap, subst}
+use mathlib.Core.Path.{◌≡◌, refl, sym, ◌∙◌, ap, subst}
 use mathlib.Core.Bool.{Bool, true, false, cond, ◌||◌, not}
 use mathlib.Core.List.{List, ◌∷◌, ◌++◌}
 use native.Mathlib.Omega.{arith}
@@ -14,6 +14,7 @@ use Rattle.std.specs.Prelude.{Result, Err, ⊤}
 use Rattle.refusals.specs.declared.Refusal.{Refusal}
 use Rattle.refusals.specs.declared.Refusal.TheVariants.{QueueFull, LeavesFull, NothingAsked, NotFinite, NodesFull, NotFitting}
 use Rattle.refusals.specs.Refusals.{number}
+use Rattle.refusals.proofs.Numbers.{number_apart}
 use Rattle.morton.specs.Level.{limit, level, Cell}
 use Rattle.build.specs.declared.State.{State}
 use Rattle.build.specs.Build.{number_of, allowed, Tables, Outcome, lengths_of, node_room, finest, item_at, cell_to, same_lengths, counts_fit, idle_fits, busy_fits, fits_at, fits, full_of, refusal_at, refusal_of, split_of, distance_of}
@@ -129,8 +130,8 @@ pub refusal_none : (s : State) (split : Bool) (d : Float) (t : Tables) → fits 
 unfolding fits refusal_of refusal_at
 refusal_none s split d t e n k r f = rw (e, ne_eqb s.asked 0 n, k, ne_eqb s.nodes (node_room (lengths_of t)) r) f
 
-pub never_10 : (s : State) (d : Float) (t : Tables) → fits s t ≡ true → (distance_of s d t).answer ≡ Err NotFitting → ⊥
-never_10 s d t e r = refusal_not_10 s (split_of s d) d t e (refused_why s d t NotFitting r)
+pub never_10 : (s : State) (d : Float) (t : Tables) (k : Refusal) → fits s t ≡ true → (distance_of s d t).answer ≡ Err k → number k ≡ 10 → ⊥
+never_10 s d t k e r n = refusal_not_10 s (split_of s d) d t e (refused_why s d t k r ∙ ap Err (number_apart k NotFitting n))
 
 -- ---- 16, exactly where the distance isn't finite
 
@@ -138,10 +139,11 @@ pub refusal_broken : (s : State) (split : Bool) (d : Float) (t : Tables) → fit
 unfolding fits refusal_of refusal_at
 refusal_broken s split d t e n f = rw (e, ne_eqb s.asked 0 n, f) refl
 
-pub broken_refused : (s : State) (d : Float) (t : Tables) → fits s t ≡ true → (s.asked ≡ 0 → ⊥) → finite d ≡ false → (distance_of s d t).answer ≡ Err NotFinite
+pub broken_refused : (s : State) (d : Float) (t : Tables) → fits s t ≡ true → (s.asked ≡ 0 → ⊥) → finite d ≡ false
+    → ((distance_of s d t).answer ≡ Err NotFinite) × (number NotFinite ≡ 16)
 unfolding distance_of
 broken_refused s d t e n f =
-    ap (λ (o : Outcome). o.answer) (sym (refused s (split_of s d) d t NotFinite (refusal_broken s (split_of s d) d t e n f)))
+    (ap (λ (o : Outcome). o.answer) (sym (refused s (split_of s d) d t NotFinite (refusal_broken s (split_of s d) d t e n f))), refl)
 
 pub refusal_16 : (s : State) (split : Bool) (d : Float) (t : Tables) → refusal_of s split d t ≡ Err NotFinite → finite d ≡ false
 unfolding refusal_of refusal_at
@@ -155,5 +157,5 @@ refusal_16 s split d t = go (fits_at s _ _ _ _) (eqb s.asked 0) (finite d) (eqb 
     go true false true true e = absurd (not_so (Err NodesFull) NotFinite (λ n. omega arith) e)
     go true false true false e = absurd (not_so (full_of s split) NotFinite (λ n. omega (arith, full_most s split)) e)
 
-pub only_broken : (s : State) (d : Float) (t : Tables) → (distance_of s d t).answer ≡ Err NotFinite → finite d ≡ false
-only_broken s d t e = refusal_16 s (split_of s d) d t (refused_why s d t NotFinite e)
+pub only_broken : (s : State) (d : Float) (t : Tables) (k : Refusal) → (distance_of s d t).answer ≡ Err k → number k ≡ 16 → finite d ≡ false
+only_broken s d t k e n = refusal_16 s (split_of s d) d t (refused_why s d t k e ∙ ap Err (number_apart k NotFinite n))

@@ -163,7 +163,7 @@ module _ (t : Tree) (sound : Sound t) (D : ℕ) (deep : D ≤ deepest) (leaf : (
         levels = ls;
         corners = lists_corners t.leaves vs ls shallow mine;
         room = λ start was left a says room. has_room start was left room same a says;
-        no_room = λ start was left a says none. has_none start was left none same a says;
+        no_room = λ start was left a says none. (has_none start was left none same a says, refl);
       }
     where
       has_room : {n : ℕ} (start : ℕ) (was left : Lists) → Room start n was → ((xs ys : List ℕ) → Listed t.leaves xs ys → length xs ≡ n)

@@ -14,6 +14,7 @@ use borrow.Author.Tests.{eqb-false, ne_eqb, le-ltb}
 use Rattle.std.specs.Prelude.{Result, Err, ⊤}
 use Rattle.refusals.specs.declared.Refusal.{Refusal}
 use Rattle.refusals.specs.declared.Refusal.TheVariants.{QueueFull, LeavesFull, NothingAsked, NotFinite, NodesFull}
+use Rattle.refusals.proofs.Numbers.{number_apart}
 use Rattle.morton.specs.Level.{level}
 use Rattle.morton.specs.Split.{splits}
 use Rattle.morton.proofs.Levels.{cell_level}
@@ -85,9 +86,9 @@ seven_by false false false false q false h = not_so allowed LeavesFull (λ n. om
 
 pub enough_leaves : EnoughLeaves
 unfolding fits refusal_of refusal_at full_of
-enough_leaves bound lent given s t room run d e =
+enough_leaves bound lent given s t room run d k e n =
     let h = run_traced run in
-    let c : refusal_of s (split_of s d) d t ≡ Err LeavesFull = refused_why s d t LeavesFull e in
+    let c : refusal_of s (split_of s d) d t ≡ Err LeavesFull = refused_why s d t k e ∙ ap Err (number_apart k LeavesFull n) in
     seven_by (eqb s.asked 0) (not (finite d)) (eqb s.nodes (node_room (lengths_of t))) (split_of s d)
     (ltb s.lengths.queue (7 * s.nodes - 8 * s.leaves + 8)) (eqb s.leaves s.lengths.leaves)
     (λ a b.

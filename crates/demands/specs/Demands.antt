@@ -2,7 +2,9 @@
 use Rattle.std.specs.Prelude.{ℕ, ◌+◌, ◌*◌, ◌≤◌, ◌<◌, ◌≡◌, true, false, not, List, ◌∷◌, ◌++◌, reverse, length, get_or, take, Float, Err}
 use Rattle.std.specs.Float.{nan}
 use Rattle.std.specs.Float.Ieee.Scale.{finite}
-use Rattle.refusals.specs.declared.Refusal.TheVariants.{NotFitting, NotFinite}
+use Rattle.refusals.specs.declared.Refusal.{Refusal}
+use Rattle.refusals.specs.declared.Refusal.TheVariants.{NotFinite}
+use Rattle.refusals.specs.Refusals.{number}
 use Rattle.morton.specs.Level.{level}
 use Rattle.morton.specs.Split.{splits}
 use Rattle.build.specs.declared.State.{State}
@@ -17,11 +19,11 @@ pub record AfterEveryDistance (bound : ℕ) (lent : Tables) (given : List Float)
   pub covers : Covers (finest bound) (leaf_keys s t ++ open_cells s t)
   -- The state fits its tables: refusal 10 never comes, whatever distance is given next.
   pub fitting : fits s t ≡ true
-  pub never_10 : (d : Float) → (distance_of s d t).answer ≡ Err NotFitting → ⊥
+  pub never_10 : (d : Float) (k : Refusal) → (distance_of s d t).answer ≡ Err k → number k ≡ 10 → ⊥
   -- While a cell is asked for, an infinite or NaN distance is refused with 16, full tables or not, and no finite one is. So every distance of a build is
   -- finite.
-  pub broken_refused : (s.asked ≡ 0 → ⊥) → (d : Float) → finite d ≡ false → (distance_of s d t).answer ≡ Err NotFinite
-  pub only_broken : (d : Float) → (distance_of s d t).answer ≡ Err NotFinite → finite d ≡ false
+  pub broken_refused : (s.asked ≡ 0 → ⊥) → (d : Float) → finite d ≡ false → ((distance_of s d t).answer ≡ Err NotFinite) × (number NotFinite ≡ 16)
+  pub only_broken : (d : Float) (k : Refusal) → (distance_of s d t).answer ≡ Err k → number k ≡ 16 → finite d ≡ false
   pub finite_given : AllFinite given
   -- There is a node for each distance, in the order given; node and leaf keys are strictly ascending.
   pub nodes : s.nodes ≡ length given

@@ -4,6 +4,7 @@ use Rattle.std.specs.Prelude.{ℕ, ◌+◌, ◌^◌, ◌≤◌, ◌<◌, ◌≡�
 use Rattle.std.specs.Float.{nan}
 use Rattle.refusals.specs.declared.Refusal.{Refusal}
 use Rattle.refusals.specs.declared.Refusal.TheVariants.{ListFull}
+use Rattle.refusals.specs.Refusals.{number}
 use Rattle.morton.specs.Level.{deepest, level}
 use Rattle.morton.specs.Vertex.{is_inner, side_of}
 use Rattle.build.specs.declared.State.{State}
@@ -48,7 +49,7 @@ pub record Answered (t : Tree) : Type 0 where
   pub levels : List ℕ
   pub corners : ListsCorners t.leaves vertices levels
   pub room : (start : ℕ) (was left : Lists) (a : Result ℕ Refusal) → ListSays t start was left a → Room start (length vertices) was → a ≡ Ok (length vertices)
-  pub no_room : (start : ℕ) (was left : Lists) (a : Result ℕ Refusal) → ListSays t start was left a → (Room start (length vertices) was → ⊥) → a ≡ Err ListFull
+  pub no_room : (start : ℕ) (was left : Lists) (a : Result ℕ Refusal) → ListSays t start was left a → (Room start (length vertices) was → ⊥) → (a ≡ Err ListFull) × (number ListFull ≡ 12)
 
 -- k is the one leaf that holds the cell f of the finest grid, d its distance and place where it stands.
 pub record HoldsAlone (D : ℕ) (t : Tree) (f k : ℕ) (d : Float) (place : ℕ) : Type 0 where

@@ -2,7 +2,7 @@
 use Rattle.std.specs.Prelude.{ℕ, ◌+◌, ◌-◌, ◌*◌, ◌/◌, ◌≤◌, ◌<◌, ◌≡◌, true, cond, List, length, Float, Err}
 use Rattle.std.specs.Float.Ieee.Scale.{finite}
 use Rattle.refusals.specs.declared.Refusal.{Refusal}
-use Rattle.refusals.specs.declared.Refusal.TheVariants.{LeavesFull}
+use Rattle.refusals.specs.Refusals.{number}
 use Rattle.build.specs.declared.State.{State}
 use Rattle.build.specs.Build.{Tables, node_room, lengths_of, split_of, distance_of}
 use Rattle.demands.specs.Run.{Run}
@@ -31,7 +31,7 @@ abbrev pub EnoughLeaves : Type 0
 EnoughLeaves =
     (bound : ℕ) (lent : Tables) (given : List Float) (s : State) (t : Tables)
     → RoomFor (node_room (lengths_of lent)) lent → Run bound lent given s t
-    → (d : Float) → (distance_of s d t).answer ≡ Err LeavesFull → ⊥
+    → (d : Float) (k : Refusal) → (distance_of s d t).answer ≡ Err k → number k ≡ 7 → ⊥
 
 -- So distances that finish a build on some tables finish it, with the same tree, on all tables with room for its nodes.
 abbrev pub Finishes : Type 0

@@ -145,7 +145,7 @@ hosts_building host bound lent given words t h =
       word_7 = w.leaves_length ∙ ap (λ (z : Lengths). z.leaves) k.lengths_same;
       word_8 = w.queue_length ∙ ap (λ (z : Lengths). z.queue) k.lengths_same;
       never_10 = λ d places e.
-          a.never_10 d (ap (λ (o : Outcome). o.answer) (sym (refused s (split_of s d) d t NotFitting (is_refusal _ NotFitting (sym (at d places) ∙ e)))));
+          a.never_10 d NotFitting (ap (λ (o : Outcome). o.answer) (sym (refused s (split_of s d) d t NotFitting (is_refusal _ NotFitting (sym (at d places) ∙ e))))) refl;
       broken_16 = λ asks d places f. at d places ∙ ap number_of (refusal_broken s (split_of s d) d t a.fitting (λ z. asks (w.asked ∙ z)) f);
       only_16 = λ d places e. refusal_16 s (split_of s d) d t (is_refusal _ NotFinite (sym (at d places) ∙ e));
     }

@@ -5,7 +5,7 @@ use Rattle.std.specs.Float.Ieee.Scale.{finite}
 use Rattle.refusals.specs.Refusals.{number}
 use Rattle.refusals.specs.declared.Refusal.{Refusal}
 use Rattle.refusals.proofs.Numbers as numbers
-use Rattle.refusals.specs.declared.Refusal.TheVariants.{NotFitting, NotFinite, LeavesFull, ListFull}
+use Rattle.refusals.specs.declared.Refusal.TheVariants.{NotFinite, ListFull}
 use Rattle.slabs.specs.declared.Reach.{Reach}
 use Rattle.morton.specs.declared.Vec3.{Vec3}
 use Rattle.morton.specs.Answers.{CentreSays}
@@ -93,14 +93,14 @@ module _ (bound : ℕ) (lent : Tables) (given : List Float) (s : State) (t : Tab
   volumes_add_up = whole.covers.full
 
   -- an honest host never hears 10;
-  pub never_10 : (d : Float) → (distance_of s d t).answer ≡ Err NotFitting → ⊥
+  pub never_10 : (d : Float) (k : Refusal) → (distance_of s d t).answer ≡ Err k → number k ≡ 10 → ⊥
   never_10 = whole.never_10
 
   -- while a cell is asked for, an infinite or NaN distance is refused with 16, and no finite one is; so every distance of a build is finite;
-  pub broken_refused : (s.asked ≡ 0 → ⊥) → (d : Float) → finite d ≡ false → (distance_of s d t).answer ≡ Err NotFinite
+  pub broken_refused : (s.asked ≡ 0 → ⊥) → (d : Float) → finite d ≡ false → ((distance_of s d t).answer ≡ Err NotFinite) × (number NotFinite ≡ 16)
   broken_refused = whole.broken_refused
 
-  pub only_broken : (d : Float) → (distance_of s d t).answer ≡ Err NotFinite → finite d ≡ false
+  pub only_broken : (d : Float) (k : Refusal) → (distance_of s d t).answer ≡ Err k → number k ≡ 16 → finite d ≡ false
   only_broken = whole.only_broken
 
   pub finite_given : AllFinite given
@@ -224,7 +224,7 @@ enough_room = rooms.enough_room
 -- by 7 never where n is the node room,
 pub enough_leaves : (bound : ℕ) (lent : Tables) (given : List Float) (s : State) (t : Tables)
     → RoomFor (node_room (lengths_of lent)) lent → Run bound lent given s t
-    → (d : Float) → (distance_of s d t).answer ≡ Err LeavesFull → ⊥
+    → (d : Float) (k : Refusal) → (distance_of s d t).answer ≡ Err k → number k ≡ 7 → ⊥
 enough_leaves = rooms.enough_leaves
 
 -- and distances that finish a build on some tables finish it, with the same tree, on all tables with room for its nodes.
@@ -271,7 +271,7 @@ module _ (t : Tree) (sound : Sound t) (D : ℕ) (deep : D ≤ deepest) (fine : (
   -- A list is refused for want of room only, and answered with the number of its vertices.
   pub listed_by_room : (vertices levels : List ℕ) × ListsCorners t.leaves vertices levels
       × ((start : ℕ) (was left : Lists) (a : Result ℕ Refusal) → ListSays t start was left a → Room start (length vertices) was → a ≡ Ok (length vertices))
-      × ((start : ℕ) (was left : Lists) (a : Result ℕ Refusal) → ListSays t start was left a → (Room start (length vertices) was → ⊥) → a ≡ Err ListFull)
+      × ((start : ℕ) (was left : Lists) (a : Result ℕ Refusal) → ListSays t start was left a → (Room start (length vertices) was → ⊥) → (a ≡ Err ListFull) × (number ListFull ≡ 12))
   listed_by_room = (right.answered.vertices, right.answered.levels, right.answered.corners, right.answered.room, right.answered.no_room)
 
   -- The dual cell of any inner vertex is found, unless the tree is the root alone.
