@@ -18,7 +18,7 @@ use Rattle.refusals.proofs.Numbers.{number_apart}
 use Rattle.morton.specs.Level.{level}
 use Rattle.morton.specs.Split.{splits}
 use Rattle.morton.proofs.Levels.{cell_level}
-use Rattle.morton.proofs.Distance.{always}
+use Rattle.morton.proofs.Distance.{shallow}
 use Rattle.build.specs.declared.Lengths.{Lengths}
 use Rattle.build.specs.declared.State.{State}
 use Rattle.build.specs.Build.{allowed, Tables, lengths_of, node_room, full_of, refusal_of, refusal_at, fits, split_of, leaves_of, moved_of}
@@ -202,7 +202,7 @@ low_next bound next (k ∷ ks) more [] all e l f = absurd (omega arith)
 low_next bound next (k ∷ ks) more (d ∷ ds) all e l f =
     let o : k ≡ 1 = cc in
     let rest : ks ++ (next ∷ more) ≡ cond (splits (level k) bound d) (children k ++ children_of bound ks ds) (children_of bound ks ds) = cc in
-    let divides : true ≡ splits 0 bound d = sym (finite_head d ds all) ∙ always 0 bound d (omega arith) in
+    let divides : true ≡ splits 0 bound d = sym (finite_head d ds all) ∙ shallow 0 bound d (omega arith) in
     go (rw (o, root_level, ← divides) at rest)
   where
     go : ks ++ (next ∷ more) ≡ children 1 ++ children_of bound ks ds → level next < 2
@@ -226,7 +226,7 @@ module _ {bound : ℕ} (lent : Tables) (short : length lent.queue < 64) where
       let low : level s.asked < 2 =
       low_next bound s.asked (node_keys s t) (waiting s t) (reverse given) (finite_reverse given h.known) (nodes_count s t h ∙ h.nodes ∙ sym (length-reverse given)) (omega (arith, nodes_count s t h))
       (ap (λ (xs : List ℕ). node_keys s t ++ xs) (sym (open_asked s t p.asks)) ∙ grown_all h.grown) in
-      let split : split_of s d ≡ true = sym (always (level s.asked) s.bound d low) ∙ p.known in
+      let split : split_of s d ≡ true = sym (shallow (level s.asked) s.bound d low) ∙ p.known in
       let ring = full_ring s (rw split at p).full in
       rw (← k.state, split) (none, omega (arith, ring, queue_same s t h))
 

@@ -11,7 +11,7 @@ use borrow.Author.Tests.{ltb-true}
 use Rattle.morton.specs.Level.{deepest, limit}
 use Rattle.morton.specs.Split.{near, splits}
 use Rattle.morton.proofs.Levels.{and_true}
-use Rattle.morton.proofs.Distance.{always}
+use Rattle.morton.proofs.Distance.{shallow}
 use Rattle.build.specs.Build.{finest}
 
 -- a cell that is split isn't of the finest level
@@ -30,7 +30,7 @@ pub whole_level : (L bound : ℕ) (d : Float) → finite d ≡ true → splits L
 whole_level L bound d f h = go (dec_lt L 2)
   where
     go : Dec (L < 2) → 2 ≤ L
-    go (yes l) = absurd (false≢true (sym h ∙ sym (always L bound d l) ∙ f))
+    go (yes l) = absurd (false≢true (sym h ∙ sym (shallow L bound d l) ∙ f))
     go (no l) = omega arith
 
 pub finest_least : (bound : ℕ) → bound ≤ 2 → finest bound ≡ 2
